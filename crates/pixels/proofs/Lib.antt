@@ -1,0 +1,5 @@
+pub mod Laws
+pub mod Stores
+pub mod Steps
+pub mod Turns
+pub mod Examples

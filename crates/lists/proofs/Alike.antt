@@ -1,0 +1,57 @@
+-- The loop that compares two parameter lists.
+use Prim.Native.Nat.{ℕ, suc, _+_, _≤_, _<_, min}
+use mathlib.Core.Path.{_≡_, refl, sym, ap, _∙_}
+use mathlib.Core.Bool.{Bool, true, false, not, _&&_, _||_}
+use mathlib.Core.List.{List, [], _∷_}
+use native.Mathlib.Numerals.{add-one}
+use native.Mathlib.Omega.{arith}
+use borrow.Author.Tests.{eq-eqb, ne-eqb}
+use lib.Dec.{eqb}
+use lib.ListN.{length, take, drop, getD, length-take, drop-of-length-le}
+use lib.Seq.{drop-cons, getD-take}
+use Rattle.lists.specs.Params.{listed, sameNumbers, differ}
+use Rattle.lists.specs.declared.Params.{Params}
+
+-- From number i on the lists are the same exactly if they are from the first.
+pub record Alike (p q : Params) (n i : ℕ) : Type 0 where
+  pub within : i ≤ n
+  pub left : sameNumbers (drop i (listed p)) (drop i (listed q)) ≡ sameNumbers (listed p) (listed q)
+
+pub alike-first : {p q : Params} {n : ℕ} → Alike p q n 0
+alike-first = record { within = omega arith; left = refl }
+
+pub counts-differ : (p q : Params) → (p .count ≡ q .count → ⊥) → true ≡ differ p q
+unfolding differ
+counts-differ p q h = rw (ne-eqb (p .count) (q .count) h)
+
+module _
+    {p q : Params} {n : ℕ} (most : n ≡ min (p .count) 14) (counts : p .count ≡ q .count) (long : length (p .bytes) ≡ 14)
+    (long′ : length (q .bytes) ≡ 14)
+  where
+    step :
+        {i : ℕ} → Alike p q n i → i < n →
+        eqb (getD (p .bytes) i 0) (getD (q .bytes) i 0) && sameNumbers (drop (i + 1) (listed p)) (drop (i + 1) (listed q)) ≡
+        sameNumbers (listed p) (listed q)
+    step {i} a h =
+        let hp : i < length (listed p) = rw length-take (omega arith) in
+        let hq : i < length (listed q) = rw length-take (omega arith) in
+        rw (add-one i, ← getD-take (p .count) (p .bytes) i 0 (omega arith), ← getD-take (q .count) (q .bytes) i 0 (omega arith))
+        (rw (drop-cons (listed p) i 0 hp, drop-cons (listed q) i 0 hq) at (a .left))
+
+    pub byte-differs : {i : ℕ} → Alike p q n i → i < n → (getD (p .bytes) i 0 ≡ getD (q .bytes) i 0 → ⊥) → true ≡ differ p q
+    unfolding differ
+    byte-differs {i} a h d =
+        let e : false ≡ sameNumbers (listed p) (listed q) = rw (ne-eqb (getD (p .bytes) i 0) (getD (q .bytes) i 0) d) at (step a h) in
+        rw (eq-eqb (p .count) (q .count) counts, ← e)
+
+    pub alike-next : {i : ℕ} → Alike p q n i → i < n → getD (p .bytes) i 0 ≡ getD (q .bytes) i 0 → Alike p q n (i + 1)
+    alike-next {i} a h d =
+        record { within = omega arith; left = rw (eq-eqb (getD (p .bytes) i 0) (getD (q .bytes) i 0) d) at (step a h) }
+
+    pub alike-last : {i : ℕ} → Alike p q n i → n ≤ i → false ≡ differ p q
+    unfolding differ
+    alike-last {i} a h =
+        let hp : length (listed p) ≤ i = rw length-take (omega arith) in
+        let hq : length (listed q) ≤ i = rw length-take (omega arith) in
+        let e : true ≡ sameNumbers (listed p) (listed q) = rw (drop-of-length-le (listed p) hp, drop-of-length-le (listed q) hq) at (a .left) in
+        rw (eq-eqb (p .count) (q .count) counts, ← e)

@@ -1,0 +1,105 @@
+// Fixed lists and their entries: a command's parameters, the stored commands, the trace and the warnings.
+ghost use mathlib.Core.Path.{_≡_};
+ghost use Prim.Native.Nat.{_-_, min};
+ghost use Rattle.lists.specs.Params.{noParams, filled, differ};
+
+pub const MAX_PARAMS: u8 = 14;
+
+// The parameter bytes that followed a command: the first `count` of 14.
+pub struct Params {
+    pub bytes: [u8; 14],
+    pub count: u8,
+}
+
+// The place of one stored command: no list yet, or its last one.
+pub struct Stored {
+    pub present: bool,
+    pub params: Params,
+}
+
+// A command as the trace keeps it. Pixel bytes are counted, not kept.
+pub struct TraceRecord {
+    pub at: u64,
+    pub pixel_bytes: u64,
+    pub params: Params,
+    pub cmd: u8,
+}
+
+// A timing rule that was broken, by which command and when.
+pub struct Warning {
+    pub at: u64,
+    pub rule: u8,
+    pub cmd: u8,
+}
+
+// The trace record that data is added to.
+pub enum Current {
+    Nothing,
+    At(u8),
+}
+
+fn wide(n: u8) -> usize
+    ensures { λ r. ⌜ r ≡ n ⌝ }
+{
+    n as usize
+}
+
+fn lesser(a: usize, b: usize) -> usize
+    ensures { λ r. ⌜ r ≡ min a b ⌝ }
+{
+    if a < b { a } else { b }
+}
+
+// How many places are free.
+fn room(count: u8) -> usize
+    ensures { λ r. ⌜ r ≡ 14 - count ⌝ }
+{
+    if count < MAX_PARAMS {
+        wide(MAX_PARAMS - count)
+    } else {
+        0
+    }
+}
+
+impl Params {
+    pub fn empty() -> Params
+        ensures answer { λ r. ⌜ r ≡ noParams ⌝ }
+    {
+        Params {
+            bytes: [0u8; 14],
+            count: 0,
+        }
+    }
+
+    // As many of the bytes as there are places free.
+    pub fn append(mut self, bytes: &[u8]) -> Params
+        ensures answer { λ r. ⌜ r ≡ filled self (now (bytes .entry)) ⌝ }
+    {
+        let taken = lesser(bytes.len(), room(self.count));
+        let mut i = 0;
+        while i < taken {
+            let at = wide(self.count);
+            self.bytes[at] = bytes[i];
+            self.count = self.count + 1;
+            i += 1;
+        }
+        self
+    }
+
+    pub fn differs(self, other: Params) -> bool
+        ensures answer { λ r. ⌜ r ≡ differ self other ⌝ }
+    {
+        if self.count != other.count {
+            return true;
+        }
+        let n = lesser(wide(self.count), 14);
+        let mut i = 0;
+        while i < n {
+            if self.bytes[i] != other.bytes[i] {
+                return true;
+            }
+            i += 1;
+        }
+        false
+    }
+}

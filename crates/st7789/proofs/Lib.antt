@@ -1,0 +1,4 @@
+pub mod Commands
+pub mod Lists
+pub mod Datas
+pub mod Tests

@@ -1,0 +1,107 @@
+-- Document 01: what the public operations leave behind. "A refusal gives back the state it got .. and every lent number as before."
+use Prim.Native.Nat.{ℕ}
+use mathlib.Core.Bool.{Bool, true, false, cond}
+use mathlib.Core.List.{List}
+use lib.ListN.{length, replicate}
+use lib.Dec.{eqb}
+use Rattle.pixels.specs.Run.{written}
+use Rattle.pixels.specs.declared.Span.{Span}
+use Rattle.pixels.specs.declared.Span.the-variants.{Rows}
+use Rattle.lists.specs.Params.{noParams}
+use Rattle.lists.specs.declared.Current.{Current}
+use Rattle.chip.specs.Begin.{freshChip}
+use Rattle.st7789.specs.Parts.{withCfg, withPower, withDirty, withWarnings}
+use Rattle.st7789.specs.Command.{begunAll, released}
+use Rattle.st7789.specs.Data.{dataIn, storesIn}
+use Rattle.st7789.specs.Refusals.{transferRefusal, bareRefusal, memoryRefusal}
+use Rattle.st7789.specs.declared.BoardDomain.{BoardDomain}
+use Rattle.st7789.specs.declared.BoardDomain.the-variants.{McuRail, Rtc, BoardRail, Battery, Card, Flash, Host}
+use Rattle.st7789.specs.declared.Taken.{Taken}
+use Rattle.st7789.specs.declared.Controller.{Controller}
+
+-- "Fresh: .. unpowered, .. level 0 scale 1, duty 0, span, counts and lists empty, .. the switch as asked"
+unfoldable pub freshController : Bool → Controller
+freshController shows =
+    record {
+      cfg = record { «invon_shows_ram» = shows };
+      power = record { powered = false; level = 0; scale = 1; duty = 0 };
+      chip = freshChip;
+      counts = record { commands = 0; «ramwr_count» = 0; «pixels_written» = 0; «dropped_params» = 0 };
+      dirty = Span.Nothing;
+      logs = record { traced = 0; warned = 0; current = Current.Nothing };
+      stored = replicate 12 (record { present = false; params = noParams });
+      records = replicate 128 (record { at = 0; «pixel_bytes» = 0; params = noParams; cmd = 0 });
+      warnings = replicate 128 (record { at = 0; rule = 0; cmd = 0 });
+    }
+
+-- "memory zero"
+abbrev pub zeroed : List ℕ → List ℕ
+zeroed memory = replicate (length memory) 0
+
+-- The new where nothing was refused, and the old where something was.
+abbrev pub unlessRefused : {A : Type 0} → ℕ → A → A → A
+unlessRefused refusal new old = cond (eqb refusal 0) new old
+
+-- "Board rail: fresh with the switch kept, and all rows marked; the other six domains change nothing."
+abbrev pub allRows : Span
+allRows = Rows 0 319
+
+abbrev pub isBoardRail : BoardDomain → Bool
+isBoardRail McuRail = false
+isBoardRail Rtc = false
+isBoardRail BoardRail = true
+isBoardRail Battery = false
+isBoardRail Card = false
+isBoardRail Flash = false
+isBoardRail Host = false
+
+abbrev pub railReset : Bool → Controller → Controller
+railReset rail s = cond rail (withDirty allRows (freshController (s .cfg .«invon_shows_ram»))) s
+
+-- "Transfer: with dc low, each byte begins a command; with dc high the bytes are data. CS release, if asked, comes last."
+unfoldable pub moved : ℕ → Bool → List ℕ → Bool → Controller → Controller
+moved t dc bytes cs s =
+    let r : Controller = cond dc (dataIn bytes s) (begunAll t bytes s) in
+    cond cs (released r) r
+
+unfoldable pub transferred : ℕ → Bool → List ℕ → Bool → ℕ → Controller → Controller
+transferred t dc bytes cs cells s = unlessRefused (transferRefusal s cells (length bytes)) (moved t dc bytes cs s) s
+
+unfoldable pub transferMemory : Bool → List ℕ → List ℕ → Controller → List ℕ
+transferMemory dc bytes memory s =
+    unlessRefused (transferRefusal s (length memory) (length bytes)) (written memory (storesIn dc bytes s)) memory
+
+unfoldable pub bareTransferred : ℕ → Bool → List ℕ → Bool → Controller → Controller
+bareTransferred t dc bytes cs s = unlessRefused (bareRefusal s (length bytes)) (moved t dc bytes cs s) s
+
+unfoldable pub resetState : BoardDomain → ℕ → Controller → Controller
+resetState domain cells s = unlessRefused (memoryRefusal cells) (railReset (isBoardRail domain) s) s
+
+unfoldable pub resetMemory : BoardDomain → List ℕ → List ℕ
+resetMemory domain memory = unlessRefused (memoryRefusal (length memory)) (cond (isBoardRail domain) (zeroed memory) memory) memory
+
+-- A panel made over lent memory.
+unfoldable pub newMemory : List ℕ → List ℕ
+newMemory memory = unlessRefused (memoryRefusal (length memory)) (zeroed memory) memory
+
+-- "Setting power, `invon_shows_ram`, brightness, mark-all and taking warnings are never refused."
+abbrev pub poweredSet : Bool → Controller → Controller
+poweredSet on s = withPower (record { powered = on; level = s .power .level; scale = s .power .scale; duty = s .power .duty }) s
+
+abbrev pub showsSet : Bool → Controller → Controller
+showsSet shows s = withCfg (record { «invon_shows_ram» = shows }) s
+
+abbrev pub brightnessSet : ℕ → ℕ → ℕ → Controller → Controller
+brightnessSet level scale duty s =
+    withPower (record { powered = s .power .powered; level = level; scale = scale; duty = duty }) s
+
+abbrev pub allMarked : Controller → Controller
+allMarked s = withDirty allRows s
+
+abbrev pub warningsTaken : Controller → Taken
+warningsTaken s =
+    record {
+      controller = withWarnings (record { count = 0; places = s .warnings }) s;
+      warnings = s .warnings;
+      count = s .logs .warned;
+    }

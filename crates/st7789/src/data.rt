@@ -1,0 +1,183 @@
+// Data: pixels of a run, parameters of a command, or lost.
+ghost use mathlib.Core.Path.{_≡_};
+ghost use mathlib.Core.Bool.{true};
+ghost use Prim.Native.Nat.{_+_, _-_, _^_, _<_, _≤_};
+ghost use lib.ListN.{length, getD, set};
+ghost use Rattle.pixels.specs.Run.{stores, written};
+ghost use Rattle.st7789.specs.Data.{noRecord, onCurrent, withRecords, morePixels, moreParams, placeOf, storedAfter, ran, taken, dataIn, storesIn};
+ghost use Rattle.st7789.specs.Parts.{withStored};
+ghost use Rattle.st7789.specs.Refusals.{pixelsHeld};
+ghost use Rattle.st7789.specs.Room.{Placed, Room};
+use crate::Controller;
+use crate::Counts;
+use crate::wide;
+use chip::Chip;
+use chip::InForce;
+use lists::Current;
+use lists::Params;
+use lists::Stored;
+
+// How many of n bytes find no place behind `count` parameters.
+fn excess(n: usize, count: u8) -> u64
+    ensures { λ r. ⌜ (r ≡ n - (14 - count)) × (r ≤ n) ⌝ }
+{
+    if count < 14 {
+        let room = wide(14 - count);
+        if room < n {
+            return (n - room) as u64;
+        }
+        return 0;
+    }
+    n as u64
+}
+
+// The place of a stored command, 12 for any other.
+fn stored_place(c: u8) -> usize
+    ensures { λ r. ⌜ r ≡ placeOf c ⌝ }
+{
+    match c {
+        0xB2 => 0,
+        0xB7 => 1,
+        0xBB => 2,
+        0xC0 => 3,
+        0xC2 => 4,
+        0xC3 => 5,
+        0xC4 => 6,
+        0xC6 => 7,
+        0xD0 => 8,
+        0xD6 => 9,
+        0xE0 => 10,
+        0xE1 => 11,
+        _ => 12,
+    }
+}
+
+impl Controller {
+    fn add_pixel_bytes(mut self, i: usize, n: u64) -> Controller
+        requires { ⌜ (i < 128) × (getD (self .records) i noRecord .«pixel_bytes» + n < 2 ^ 64) ⌝ }
+        ensures { λ r. ⌜ r ≡ withRecords (set (self .records) i (morePixels n (getD (self .records) i noRecord))) self ⌝ }
+    {
+        let mut record = self.records[i];
+        record.pixel_bytes = record.pixel_bytes + n;
+        self.records[i] = record;
+        self
+    }
+
+    fn trace_pixels(self, n: u64) -> Controller
+        requires { ⌜ Placed (self .logs .current) × (pixelsHeld (self .logs .current) (self .records) + n < 2 ^ 64) ⌝ }
+        ensures { λ r. ⌜ r ≡ withRecords (onCurrent (morePixels n) (self .logs .current) (self .records)) self ⌝ }
+    {
+        let logs = self.logs;
+        let current = logs.current;
+        match current {
+            Current::Nothing => self,
+            Current::At(i) => self.add_pixel_bytes(wide(i), n),
+        }
+    }
+
+    fn add_params(mut self, i: usize, bytes: &[u8]) -> Controller
+        requires { ⌜ i < 128 ⌝ }
+        ensures { λ r. ⌜ r ≡ withRecords (set (self .records) i (moreParams (now (bytes .entry)) (getD (self .records) i noRecord))) self ⌝ }
+    {
+        let mut record = self.records[i];
+        let old = record.params;
+        let params = old.append(bytes);
+        record.params = params;
+        self.records[i] = record;
+        self
+    }
+
+    fn trace_params(self, bytes: &[u8]) -> Controller
+        requires { ⌜ Placed (self .logs .current) ⌝ }
+        ensures { λ r. ⌜ r ≡ withRecords (onCurrent (moreParams (now (bytes .entry))) (self .logs .current) (self .records)) self ⌝ }
+    {
+        let logs = self.logs;
+        let current = logs.current;
+        match current {
+            Current::Nothing => self,
+            Current::At(i) => self.add_params(wide(i), bytes),
+        }
+    }
+
+    fn store(mut self, c: u8, params: Params) -> Controller
+        ensures { λ r. ⌜ r ≡ withStored (storedAfter c params (self .stored)) self ⌝ }
+    {
+        let at = stored_place(c);
+        if at < 12 {
+            self.stored[at] = Stored {
+                present: true,
+                params,
+            };
+            return self;
+        }
+        self
+    }
+
+    fn write_pixels(self, bytes: &[u8], memory: &mut [u16]) -> Controller
+        requires { ⌜ Room (length (now bytes)) self ⌝ }
+        ensures { λ r. ⌜ r ≡ ran (now (bytes .entry)) self ⌝ }
+        ensures { λ r. ⌜ now (memory .exit) ≡ written (now (memory .entry)) (stores (self .chip .window) (self .chip .registers .madctl) (self .chip .walk) (now (bytes .entry))) ⌝ }
+    {
+        let chip = self.chip;
+        let window = chip.window;
+        let walk = chip.walk;
+        let dirty = self.dirty;
+        let run = pixels::write_pixels(window, chip.registers.madctl, walk, dirty, bytes, memory);
+        let traced = self.trace_pixels(bytes.len() as u64);
+        let walk = run.walk;
+        let dirty = run.dirty;
+        let chip = Chip { walk, ..chip };
+        let old = traced.counts;
+        let counts = Counts {
+            pixels_written: old.pixels_written + run.pixels,
+            ..old
+        };
+        Controller {
+            chip,
+            counts,
+            dirty,
+            ..traced
+        }
+    }
+
+    fn take_params(self, c: u8, bytes: &[u8]) -> Controller
+        requires { ⌜ Room (length (now bytes)) self ⌝ }
+        ensures { λ r. ⌜ r ≡ taken c (now (bytes .entry)) self ⌝ }
+    {
+        let old_chip = self.chip;
+        let decoder = old_chip.decoder;
+        let params = decoder.params;
+        let lost = excess(bytes.len(), params.count);
+        let list = params.append(bytes);
+        let chip = old_chip.take(c, bytes);
+        let traced = self.trace_params(bytes);
+        let old = traced.counts;
+        let counts = Counts {
+            dropped_params: old.dropped_params + lost,
+            ..old
+        };
+        let filled = Controller {
+            chip,
+            counts,
+            ..traced
+        };
+        filled.store(c, list)
+    }
+
+    pub(crate) fn data(self, bytes: &[u8], memory: &mut [u16]) -> Controller
+        requires { ⌜ Room (length (now bytes)) self ⌝ }
+        ensures { λ r. ⌜ r ≡ dataIn (now (bytes .entry)) self ⌝ }
+        ensures { λ r. ⌜ now (memory .exit) ≡ written (now (memory .entry)) (storesIn true (now (bytes .entry)) self) ⌝ }
+    {
+        let chip = self.chip;
+        let decoder = chip.decoder;
+        if decoder.in_pixels {
+            return self.write_pixels(bytes, memory);
+        }
+        let cmd = decoder.cmd;
+        match cmd {
+            InForce::Nothing => self,
+            InForce::Code(c) => self.take_params(c, bytes),
+        }
+    }
+}

@@ -1,0 +1,162 @@
+// What a host calls: a panel made over lent memory, transfers with and without memory, and the reset of a board domain.
+ghost use mathlib.Core.Path.{_≡_};
+ghost use mathlib.Core.Bool.{cond};
+ghost use lib.Dec.{eqb};
+ghost use lib.ListN.{length};
+ghost use Rattle.pixels.specs.Run.{written};
+ghost use Rattle.st7789.specs.Command.{released};
+ghost use Rattle.st7789.specs.Data.{storesIn};
+ghost use Rattle.st7789.specs.Entries.{freshController, zeroed, isBoardRail, moved, transferred, transferMemory, bareTransferred, resetState, resetMemory, newMemory};
+ghost use Rattle.st7789.specs.Refusals.{number, transferRefusal, bareRefusal, memoryRefusal};
+ghost use Rattle.st7789.specs.Room.{Room};
+use crate::Answer;
+use crate::BoardDomain;
+use crate::Controller;
+use crate::Status;
+
+const PANEL_PIXELS: usize = 76800;
+
+fn accepted(status: Status) -> bool
+    ensures { λ r. ⌜ r ≡ eqb (number status) 0 ⌝ }
+{
+    match status {
+        Status::Ok => true,
+        Status::BadState => false,
+        Status::BadMemory => false,
+        Status::BadFrame => false,
+        Status::TooLong => false,
+        Status::CountHigh => false,
+        Status::LogLong => false,
+        Status::BadLog => false,
+    }
+}
+
+fn is_board_rail(domain: BoardDomain) -> bool
+    ensures { λ r. ⌜ r ≡ isBoardRail domain ⌝ }
+{
+    match domain {
+        BoardDomain::McuRail => false,
+        BoardDomain::Rtc => false,
+        BoardDomain::BoardRail => true,
+        BoardDomain::Battery => false,
+        BoardDomain::Card => false,
+        BoardDomain::Flash => false,
+        BoardDomain::Host => false,
+    }
+}
+
+fn zero(memory: &mut [u16])
+    ensures { λ r. ⌜ now (memory .exit) ≡ zeroed (now (memory .entry)) ⌝ }
+{
+    let mut i = 0;
+    while i < memory.len() {
+        memory[i] = 0;
+        i += 1;
+    }
+}
+
+impl Controller {
+    fn release_if(self, cs_release: bool) -> Controller
+        ensures { λ r. ⌜ r ≡ cond «cs_release» (released self) self ⌝ }
+    {
+        if cs_release {
+            return self.cs_high();
+        }
+        self
+    }
+
+    // What an accepted transfer does, over memory of any length.
+    fn decode(self, t: u64, dc: bool, bytes: &[u8], cs_release: bool, memory: &mut [u16]) -> Controller
+        requires { ⌜ Room (length (now bytes)) self ⌝ }
+        ensures { λ r. ⌜ r ≡ moved t dc (now (bytes .entry)) «cs_release» self ⌝ }
+        ensures { λ r. ⌜ now (memory .exit) ≡ written (now (memory .entry)) (storesIn dc (now (bytes .entry)) self) ⌝ }
+    {
+        if dc {
+            let after = self.data(bytes, memory);
+            return after.release_if(cs_release);
+        }
+        let after = self.commands(t, bytes);
+        after.release_if(cs_release)
+    }
+
+    // One SPI transaction: with dc low each byte begins a command, with dc high the bytes are data. CS release comes last.
+    pub fn transfer(self, t: u64, dc: bool, bytes: &[u8], cs_release: bool, memory: &mut [u16]) -> Answer
+        ensures refusal { λ r. ⌜ number (r .status) ≡ transferRefusal self (length (now (memory .entry))) (length (now (bytes .entry))) ⌝ }
+        ensures answer { λ r. ⌜ r .controller ≡ transferred t dc (now (bytes .entry)) «cs_release» (length (now (memory .entry))) self ⌝ }
+        ensures lent { λ r. ⌜ now (memory .exit) ≡ transferMemory dc (now (bytes .entry)) (now (memory .entry)) self ⌝ }
+    {
+        let status = self.refuse_transfer(memory.len(), bytes.len());
+        if accepted(status) {
+            let controller = self.decode(t, dc, bytes, cs_release, memory);
+            return Answer { controller, status };
+        }
+        Answer {
+            controller: self,
+            status,
+        }
+    }
+
+    // The same without memory: the state is the full transfer's.
+    pub fn transfer_without_memory(self, t: u64, dc: bool, bytes: &[u8], cs_release: bool) -> Answer
+        ensures refusal { λ r. ⌜ number (r .status) ≡ bareRefusal self (length (now (bytes .entry))) ⌝ }
+        ensures answer { λ r. ⌜ r .controller ≡ bareTransferred t dc (now (bytes .entry)) «cs_release» self ⌝ }
+    {
+        let status = self.refuse_transfer(PANEL_PIXELS, bytes.len());
+        if accepted(status) {
+            let mut none = [0u16; 1];
+            let controller = self.decode(t, dc, bytes, cs_release, &mut none[0..0]);
+            return Answer { controller, status };
+        }
+        Answer {
+            controller: self,
+            status,
+        }
+    }
+
+    // Resets a board domain. Only the board rail resets the panel, clearing memory with it.
+    pub fn reset(self, domain: BoardDomain, memory: &mut [u16]) -> Answer
+        ensures refusal { λ r. ⌜ number (r .status) ≡ memoryRefusal (length (now (memory .entry))) ⌝ }
+        ensures answer { λ r. ⌜ r .controller ≡ resetState domain (length (now (memory .entry))) self ⌝ }
+        ensures lent { λ r. ⌜ now (memory .exit) ≡ resetMemory domain (now (memory .entry)) ⌝ }
+    {
+        if memory.len() != PANEL_PIXELS {
+            return Answer {
+                controller: self,
+                status: Status::BadMemory,
+            };
+        }
+        if is_board_rail(domain) {
+            zero(memory);
+            let fresh = Controller::fresh(self.cfg.invon_shows_ram);
+            let controller = fresh.mark_all_dirty();
+            return Answer {
+                controller,
+                status: Status::Ok,
+            };
+        }
+        Answer {
+            controller: self,
+            status: Status::Ok,
+        }
+    }
+
+    // A panel over lent memory, which is cleared. Refused, it is fresh all the same and the memory stays.
+    pub fn new(invon_shows_ram: bool, memory: &mut [u16]) -> Answer
+        ensures refusal { λ r. ⌜ number (r .status) ≡ memoryRefusal (length (now (memory .entry))) ⌝ }
+        ensures answer { λ r. ⌜ r .controller ≡ freshController «invon_shows_ram» ⌝ }
+        ensures lent { λ r. ⌜ now (memory .exit) ≡ newMemory (now (memory .entry)) ⌝ }
+    {
+        let controller = Controller::fresh(invon_shows_ram);
+        if memory.len() != PANEL_PIXELS {
+            return Answer {
+                controller,
+                status: Status::BadMemory,
+            };
+        }
+        zero(memory);
+        Answer {
+            controller,
+            status: Status::Ok,
+        }
+    }
+}

@@ -1,0 +1,94 @@
+// The ST7789P3 controller: the chip with its lists, its counts, and the span of rows to publish. Panel memory is lent.
+ghost use mathlib.Core.Path.{_≡_};
+use chip::Chip;
+use lists::Current;
+use lists::Stored;
+use lists::TraceRecord;
+use lists::Warning;
+use pixels::Span;
+
+mod command;
+mod data;
+mod entries;
+mod refusals;
+mod switches;
+
+// Whether INVON shows memory unmodified. Kept by every reset.
+pub struct PanelConfig {
+    pub invon_shows_ram: bool,
+}
+
+// What the board sets: the rail, the backlight as level over scale, and the frame's duty.
+pub struct Power {
+    pub powered: bool,
+    pub level: u32,
+    pub scale: u32,
+    pub duty: u16,
+}
+
+pub struct Counts {
+    pub commands: u64,
+    pub ramwr_count: u64,
+    pub pixels_written: u64,
+    pub dropped_params: u64,
+}
+
+// How many trace records and warnings are used, and which record is current.
+pub struct Logs {
+    pub traced: u8,
+    pub warned: u8,
+    pub current: Current,
+}
+
+// The lists lie flat, so that a store changes them in place.
+pub struct Controller {
+    pub cfg: PanelConfig,
+    pub power: Power,
+    pub chip: Chip,
+    pub counts: Counts,
+    pub dirty: Span,
+    pub logs: Logs,
+    pub stored: [Stored; 12],
+    pub records: [TraceRecord; 128],
+    pub warnings: [Warning; 128],
+}
+
+// What an operation says of its arguments: that it accepts them, or why it refuses.
+pub enum Status {
+    Ok,
+    BadState,
+    BadMemory,
+    BadFrame,
+    TooLong,
+    CountHigh,
+    LogLong,
+    BadLog,
+}
+
+pub struct Answer {
+    pub controller: Controller,
+    pub status: Status,
+}
+
+pub struct Taken {
+    pub controller: Controller,
+    pub warnings: [Warning; 128],
+    pub count: u8,
+}
+
+// Board reset domains. Only the board rail resets the panel.
+pub enum BoardDomain {
+    McuRail,
+    Rtc,
+    BoardRail,
+    Battery,
+    Card,
+    Flash,
+    Host,
+}
+
+pub(crate) fn wide(n: u8) -> usize
+    ensures { λ r. ⌜ r ≡ n ⌝ }
+{
+    n as usize
+}

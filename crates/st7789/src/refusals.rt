@@ -1,0 +1,184 @@
+// The refusal tests, in 01's order.
+ghost use mathlib.Core.Path.{_≡_};
+ghost use mathlib.Core.Bool.{_||_};
+ghost use Prim.Native.Nat.{_≤_, _<_};
+ghost use lib.ListN.{getD};
+ghost use Rattle.lists.specs.Fixed.{used};
+ghost use Rattle.lists.specs.declared.Current.the-variants.{At};
+ghost use Rattle.st7789.specs.Data.{noRecord};
+ghost use Rattle.st7789.specs.Parts.{traceOf};
+ghost use Rattle.st7789.specs.Refusals.{number, some, windowBad, pointerBad, storedLong, countBad, recordLong, spanBad, currentBad, badState, pixelsHeld, countHigh, transferRefusal, memoryRefusal};
+ghost use Rattle.st7789.specs.Room.{Placed};
+use crate::Controller;
+use crate::Status;
+use crate::wide;
+use geometry::Pointer;
+use geometry::Window;
+use lists::Current;
+use lists::Stored;
+use pixels::Span;
+
+const HIGH: u64 = 0x8000_0000_0000_0000;
+
+fn window_bad(window: Window) -> bool
+    ensures { λ r. ⌜ r ≡ windowBad window ⌝ }
+{
+    (window.xs > 319) | ((window.xe > 319) | ((window.ys > 319) | (window.ye > 319)))
+}
+
+fn pointer_bad(pointer: Pointer) -> bool
+    ensures { λ r. ⌜ r ≡ pointerBad pointer ⌝ }
+{
+    (pointer.x > 319) | (pointer.y > 319)
+}
+
+fn span_bad(dirty: Span) -> bool
+    ensures { λ r. ⌜ r ≡ spanBad dirty ⌝ }
+{
+    match dirty {
+        Span::Nothing => false,
+        Span::Rows(first, last) => (first > last) | (last > 319),
+    }
+}
+
+fn stored_long(stored: [Stored; 12]) -> bool
+    ensures { λ r. ⌜ r ≡ some storedLong stored ⌝ }
+{
+    let mut i = 0;
+    while i < 12 {
+        let entry = stored[i];
+        let params = entry.params;
+        if entry.present & (params.count > 14) {
+            return true;
+        }
+        i += 1;
+    }
+    false
+}
+
+impl Controller {
+    fn records_long(self) -> bool
+        requires { ⌜ self .logs .traced ≤ 128 ⌝ }
+        ensures { λ r. ⌜ r ≡ some recordLong (used (traceOf self)) ⌝ }
+    {
+        let n = wide(self.logs.traced);
+        let mut i = 0;
+        while i < n {
+            let record = self.records[i];
+            let params = record.params;
+            if params.count > 14 {
+                return true;
+            }
+            i += 1;
+        }
+        false
+    }
+
+    // Whether record i is not the last used one, or has other parameters than those in force.
+    fn record_bad(self, i: u8) -> bool
+        requires { ⌜ self .logs .traced ≤ 128 ⌝ }
+        ensures { λ r. ⌜ r ≡ currentBad (At i) self ⌝ }
+    {
+        let n = wide(self.logs.traced);
+        let at = wide(i);
+        if at + 1 != n {
+            return true;
+        }
+        let record = self.records[at];
+        let params = record.params;
+        let chip = self.chip;
+        let decoder = chip.decoder;
+        let in_force = decoder.params;
+        params.differs(in_force)
+    }
+
+    fn current_bad(self) -> bool
+        requires { ⌜ self .logs .traced ≤ 128 ⌝ }
+        ensures { λ r. ⌜ r ≡ currentBad (self .logs .current) self ⌝ }
+    {
+        let logs = self.logs;
+        let current = logs.current;
+        match current {
+            Current::Nothing => false,
+            Current::At(i) => self.record_bad(i),
+        }
+    }
+
+    pub(crate) fn bad_state(self) -> bool
+        ensures { λ r. ⌜ r ≡ badState self ⌝ }
+    {
+        let chip = self.chip;
+        let window = chip.window;
+        let walk = chip.walk;
+        let pointer = walk.pointer;
+        let decoder = chip.decoder;
+        let params = decoder.params;
+        let stored = self.stored;
+        let dirty = self.dirty;
+        let corners = window_bad(window);
+        let at = pointer_bad(pointer);
+        let lists = stored_long(stored);
+        if corners | (at | ((params.count > 14) | lists)) {
+            return true;
+        }
+        if (self.logs.traced > 128) | (self.logs.warned > 128) {
+            return true;
+        }
+        let long = self.records_long();
+        let span = span_bad(dirty);
+        let current = self.current_bad();
+        long | (span | current)
+    }
+
+    fn held_at(self, i: usize) -> u64
+        requires { ⌜ i < 128 ⌝ }
+        ensures { λ r. ⌜ r ≡ getD (self .records) i noRecord .«pixel_bytes» ⌝ }
+    {
+        let record = self.records[i];
+        record.pixel_bytes
+    }
+
+    // The current record's pixel bytes, 0 where none is current.
+    fn pixel_bytes_held(self) -> u64
+        requires { ⌜ Placed (self .logs .current) ⌝ }
+        ensures { λ r. ⌜ r ≡ pixelsHeld (self .logs .current) (self .records) ⌝ }
+    {
+        let logs = self.logs;
+        let current = logs.current;
+        match current {
+            Current::Nothing => 0,
+            Current::At(i) => self.held_at(wide(i)),
+        }
+    }
+
+    fn count_high(self) -> bool
+        requires { ⌜ Placed (self .logs .current) ⌝ }
+        ensures { λ r. ⌜ r ≡ countHigh self ⌝ }
+    {
+        let counts = self.counts;
+        let held = self.pixel_bytes_held();
+        (counts.commands > HIGH)
+            | ((counts.ramwr_count > HIGH)
+                | ((counts.pixels_written > HIGH)
+                    | ((counts.dropped_params > HIGH) | (held > HIGH))))
+    }
+
+    // Why a transfer with this much memory and this many bytes is refused, or that it is not.
+    pub(crate) fn refuse_transfer(self, cells: usize, bytes: usize) -> Status
+        ensures { λ r. ⌜ number r ≡ transferRefusal self cells bytes ⌝ }
+    {
+        if self.bad_state() {
+            return Status::BadState;
+        }
+        if cells != 76800 {
+            return Status::BadMemory;
+        }
+        if bytes > 65536 {
+            return Status::TooLong;
+        }
+        if self.count_high() {
+            return Status::CountHigh;
+        }
+        Status::Ok
+    }
+}

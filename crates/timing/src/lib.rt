@@ -1,0 +1,105 @@
+// The timing lint: what the firmware did too early. Warnings only, never enforced. Times are nanoseconds.
+ghost use mathlib.Core.Path.{_≡_};
+ghost use Prim.Native.Nat.{_-_};
+ghost use Rattle.timing.specs.Lint.{soonAfter, breaks1, breaks2, breaks3, brokenBy, freshTimes, timesAfter};
+
+const SLPOUT_SETTLE: u64 = 5_000_000;
+
+const SLEEP_CYCLE: u64 = 120_000_000;
+
+pub enum Moment {
+    Never,
+    At(u64),
+}
+
+// When the panel last left sleep, if it has, and when it last entered it.
+pub struct Times {
+    pub slpout: Moment,
+    pub slpin: u64,
+}
+
+// Which of the three rules a command breaks.
+pub struct Broken {
+    pub rule1: bool,
+    pub rule2: bool,
+    pub rule3: bool,
+}
+
+fn elapsed(since: u64, t: u64) -> u64
+    ensures { λ r. ⌜ r ≡ t - since ⌝ }
+{
+    if since <= t { t - since } else { 0 }
+}
+
+fn soon_after(since: Moment, t: u64, limit: u64) -> bool
+    ensures { λ r. ⌜ r ≡ soonAfter since t limit ⌝ }
+{
+    match since {
+        Moment::Never => false,
+        Moment::At(at) => elapsed(at, t) < limit,
+    }
+}
+
+// A command less than 5 ms after SLPOUT.
+fn command_after_slpout(times: Times, c: u8, t: u64) -> bool
+    ensures { λ r. ⌜ r ≡ breaks1 times c t ⌝ }
+{
+    let slpout = times.slpout;
+    let soon = soon_after(slpout, t, SLPOUT_SETTLE);
+    (c != 0x11) & soon
+}
+
+// SLPIN and SLPOUT less than 120 ms apart.
+fn sleep_cycle_too_fast(times: Times, c: u8, t: u64) -> bool
+    ensures { λ r. ⌜ r ≡ breaks2 times c t ⌝ }
+{
+    let slpout = times.slpout;
+    let woken = soon_after(slpout, t, SLEEP_CYCLE);
+    let asleep = soon_after(Moment::At(times.slpin), t, SLEEP_CYCLE);
+    ((c == 0x10) & woken) | ((c == 0x11) & asleep)
+}
+
+// RAMWR or RAMWRC while COLMOD is not 16 bits a pixel.
+fn ramwr_wrong_colmod(colmod: u8, c: u8) -> bool
+    ensures { λ r. ⌜ r ≡ breaks3 colmod c ⌝ }
+{
+    ((c == 0x2C) | (c == 0x3C)) & (colmod != 0x55)
+}
+
+pub fn lint(times: Times, colmod: u8, c: u8, t: u64) -> Broken
+    ensures answer { λ r. ⌜ r ≡ brokenBy times colmod c t ⌝ }
+{
+    let rule1 = command_after_slpout(times, c, t);
+    let rule2 = sleep_cycle_too_fast(times, c, t);
+    let rule3 = ramwr_wrong_colmod(colmod, c);
+    Broken {
+        rule1,
+        rule2,
+        rule3,
+    }
+}
+
+impl Times {
+    pub fn fresh() -> Times
+        ensures answer { λ r. ⌜ r ≡ freshTimes ⌝ }
+    {
+        Times {
+            slpout: Moment::Never,
+            slpin: 0,
+        }
+    }
+
+    // The times after command c at time t.
+    pub fn after(self, c: u8, t: u64) -> Times
+        ensures answer { λ r. ⌜ r ≡ timesAfter self c t ⌝ }
+    {
+        match c {
+            0x11 => Times {
+                slpout: Moment::At(t),
+                ..self
+            },
+            0x01 | 0x10 => Times { slpin: t, ..self },
+            _ => self,
+        }
+    }
+}

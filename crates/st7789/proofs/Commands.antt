@@ -37,7 +37,6 @@ rules-in-turn f w b = go (b .rule1) (b .rule2) (b .rule3)
     go false false true = refl
     go false false false = refl
 
-
 pub three-rules :
     (c t : ℕ) (s one two three : Controller) (b : Broken) → b ≡ brokenBy (s .chip .times) (s .chip .registers .colmod) c t →
     one ≡ withWarnings (pushAll 128 (warningsOf s) (cond (b .rule1) (warning c t 1 ∷ []) [])) s →

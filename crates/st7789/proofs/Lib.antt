@@ -2,3 +2,4 @@ pub mod Commands
 pub mod Lists
 pub mod Datas
 pub mod Tests
+pub mod Accepted

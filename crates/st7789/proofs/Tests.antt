@@ -36,7 +36,7 @@ pub held-here :
 held-here k records i j n e ej en = en ∙ ap (λ j. getD records j noRecord .«pixel_bytes») ej ∙ ap (λ k. pixelsHeld k records) (sym e)
 
 -- BAD_STATE, clause by clause.
-none-of-two : (a b : Bool) → a || b ≡ false → (a ≡ false) × (b ≡ false)
+pub none-of-two : (a b : Bool) → a || b ≡ false → (a ≡ false) × (b ≡ false)
 none-of-two true b e = absurd (true≢false e)
 none-of-two false b e = (refl, e)
 
@@ -102,26 +102,26 @@ not-bad s f =
 module _
     (s : Controller) (w p l : Bool) (ew : w ≡ windowBad (s .chip .window)) (ep : p ≡ pointerBad (s .chip .walk .pointer))
     (el : l ≡ some storedLong (s .stored))
-    where
-  pub bad-early : w || (p || (tooLong (s .chip .decoder .params) || l)) ≡ true → true ≡ badState s
-  unfolding badState
-  bad-early e = rw (← ew, ← ep, ← el) (one-of-four w p (tooLong (s .chip .decoder .params)) l _ e)
-
-  module _ (e : w || (p || (tooLong (s .chip .decoder .params) || l)) ≡ false) where
-    pub bad-counts : countBad (s .logs .traced) || countBad (s .logs .warned) ≡ true → true ≡ badState s
+  where
+    pub bad-early : w || (p || (tooLong (s .chip .decoder .params) || l)) ≡ true → true ≡ badState s
     unfolding badState
-    bad-counts k =
-        let f = none-of-four w p (tooLong (s .chip .decoder .params)) l e in
-        rw (← ew, ← ep, ← el, f .0, f .1, f .2, f .3) (one-of-two (countBad (s .logs .traced)) (countBad (s .logs .warned)) _ k)
+    bad-early e = rw (← ew, ← ep, ← el) (one-of-four w p (tooLong (s .chip .decoder .params)) l _ e)
 
-    pub bad-late :
-        (r d k : Bool) → countBad (s .logs .traced) || countBad (s .logs .warned) ≡ false → r ≡ some recordLong (used (traceOf s)) →
-        d ≡ spanBad (s .dirty) → k ≡ currentBad (s .logs .current) s → r || (d || k) ≡ badState s
-    unfolding badState
-    bad-late r d k n er ed ek =
-        let f = none-of-four w p (tooLong (s .chip .decoder .params)) l e in
-        let g = none-of-two (countBad (s .logs .traced)) (countBad (s .logs .warned)) n in
-        rw (← ew, ← ep, ← el, f .0, f .1, f .2, f .3, g .0, g .1, er, ed, ek)
+    module _ (e : w || (p || (tooLong (s .chip .decoder .params) || l)) ≡ false) where
+      pub bad-counts : countBad (s .logs .traced) || countBad (s .logs .warned) ≡ true → true ≡ badState s
+      unfolding badState
+      bad-counts k =
+          let f = none-of-four w p (tooLong (s .chip .decoder .params)) l e in
+          rw (← ew, ← ep, ← el, f .0, f .1, f .2, f .3) (one-of-two (countBad (s .logs .traced)) (countBad (s .logs .warned)) _ k)
+
+      pub bad-late :
+          (r d k : Bool) → countBad (s .logs .traced) || countBad (s .logs .warned) ≡ false → r ≡ some recordLong (used (traceOf s)) →
+          d ≡ spanBad (s .dirty) → k ≡ currentBad (s .logs .current) s → r || (d || k) ≡ badState s
+      unfolding badState
+      bad-late r d k n er ed ek =
+          let f = none-of-four w p (tooLong (s .chip .decoder .params)) l e in
+          let g = none-of-two (countBad (s .logs .traced)) (countBad (s .logs .warned)) n in
+          rw (← ew, ← ep, ← el, f .0, f .1, f .2, f .3, g .0, g .1, er, ed, ek)
 
 pub counts-within : (s : Controller) → countBad (s .logs .traced) || countBad (s .logs .warned) ≡ false → s .logs .traced ≤ 128
 counts-within s e = ltb-false 128 (s .logs .traced) (none-of-two _ _ e .0)

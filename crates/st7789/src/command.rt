@@ -40,7 +40,11 @@ impl Controller {
         if broken {
             if n < 128 {
                 let at = wide(n);
-                self.warnings[at] = Warning { at: t, rule, cmd: c };
+                self.warnings[at] = Warning {
+                    at: t,
+                    rule,
+                    cmd: c,
+                };
                 self.logs.warned = n + 1;
                 return self;
             }
@@ -96,7 +100,11 @@ impl Controller {
         let counts = old_counts.begin(c);
         let chip = old_chip.begin(c, t);
         let warned = self.lint(c, t);
-        let decoded = Controller { chip, counts, ..warned };
+        let decoded = Controller {
+            chip,
+            counts,
+            ..warned
+        };
         decoded.trace_begin(c, t)
     }
 

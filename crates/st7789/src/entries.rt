@@ -66,7 +66,14 @@ impl Controller {
     }
 
     // What an accepted transfer does, over memory of any length.
-    fn decode(self, t: u64, dc: bool, bytes: &[u8], cs_release: bool, memory: &mut [u16]) -> Controller
+    fn decode(
+        self,
+        t: u64,
+        dc: bool,
+        bytes: &[u8],
+        cs_release: bool,
+        memory: &mut [u16],
+    ) -> Controller
         requires { ⌜ Room (length (now bytes)) self ⌝ }
         ensures { λ r. ⌜ r ≡ moved t dc (now (bytes .entry)) «cs_release» self ⌝ }
         ensures { λ r. ⌜ now (memory .exit) ≡ written (now (memory .entry)) (storesIn dc (now (bytes .entry)) self) ⌝ }
@@ -80,7 +87,14 @@ impl Controller {
     }
 
     // One SPI transaction: with dc low each byte begins a command, with dc high the bytes are data. CS release comes last.
-    pub fn transfer(self, t: u64, dc: bool, bytes: &[u8], cs_release: bool, memory: &mut [u16]) -> Answer
+    pub fn transfer(
+        self,
+        t: u64,
+        dc: bool,
+        bytes: &[u8],
+        cs_release: bool,
+        memory: &mut [u16],
+    ) -> Answer
         ensures refusal { λ r. ⌜ number (r .status) ≡ transferRefusal self (length (now (memory .entry))) (length (now (bytes .entry))) ⌝ }
         ensures answer { λ r. ⌜ r .controller ≡ transferred t dc (now (bytes .entry)) «cs_release» (length (now (memory .entry))) self ⌝ }
         ensures lent { λ r. ⌜ now (memory .exit) ≡ transferMemory dc (now (bytes .entry)) (now (memory .entry)) self ⌝ }

@@ -1,35 +1,28 @@
+use Rattle.st7789.specs.Entries.{transferred, transferMemory}
+use Rattle.st7789.proofs.Accepted.{room, refusal-none, new-left, old-left}
 use borrow.Author.Needs.{needs}
 use Rattle.st7789.proofs.Controller.transfer.Statement.{statement}
 use Rattle.st7789.proofs.Controller.transfer.Tie as tie
-use Rattle.st7789.proofs.Controller.transfer.Reads as reads
-use Rattle.st7789.proofs.Controller.transfer.Lts as lts
-use Rattle.st7789.proofs.Controller.decode.Reads as decode-reads
-use Rattle.st7789.proofs.Controller.refuse_transfer.Reads as refuse-transfer-reads
-use Rattle.st7789.proofs.entries.accepted.Reads as accepted-reads
 
--- src/entries.rt:88:13
 refuse-transfer-requires : tie.Need-refuse-transfer-requires
 refuse-transfer-requires c κs = search needs
 
--- src/entries.rt:89:12
 accepted-requires : tie.Need-accepted-requires
 accepted-requires c κs = search needs
 
--- src/entries.rt:90:17
 decode-requires : tie.Need-decode-requires
-decode-requires c κs = ?
+decode-requires c κs = room (c .before .before .before .before .before .before .args .self) _ _ (refusal-none (c .before .before .before .refuse-transfer .ensures) (c .before .before .accepted .ensures) (c .before .if1 .taken))
 
--- src/entries.rt:91:13
 same-length : tie.Need-same-length
 same-length c = search needs
 
--- src/entries.rt:91:13
 returns : tie.Need-returns
-returns c = ?
+unfolding transferred transferMemory
+returns c = let e = c .before .before .before .before .before .before .refuse-transfer .ensures in let o = c .before .before .before .before .before .accepted .ensures in let y = c .before .before .before .before .if1 .taken in (e, (new-left e o _ y (c .before .before .decode .ensures .0), new-left e o _ y (c .before .before .decode .ensures .1)))
 
--- src/entries.rt:83:5
 returns-2 : tie.Need-returns-2
-returns-2 c = ?
+unfolding transferred transferMemory
+returns-2 c = let e = c .before .before .refuse-transfer .ensures in let o = c .before .accepted .ensures in (e, (old-left e o _ (c .if1 .left), old-left e o _ (c .if1 .left)))
 
 pub transfer-spec : {M : Type 1} → statement M
 transfer-spec =

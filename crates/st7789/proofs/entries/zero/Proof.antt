@@ -1,45 +1,40 @@
+use Prim.Native.Nat.{_-_}
+use lib.ListN.{length}
+use native.Mathlib.Omega.{arith}
+use borrow.Author.Needs.{needs}
+use Rattle.st7789.proofs.Accepted.{Cleared, cleared-first, cleared-next, cleared-last}
 use Rattle.st7789.proofs.entries.zero.Statement.{statement}
 use Rattle.st7789.proofs.entries.zero.Tie as tie
-use Rattle.st7789.proofs.entries.zero.Reads as reads
-use Rattle.st7789.proofs.entries.zero.Lts as lts
 
 abbrev Inv-loop : tie.InvT-loop
-Inv-loop memory₀ i₀ memory i = ?
+Inv-loop memory₀ i₀ memory i = Cleared memory₀ memory i
 
 abbrev μ-loop : tie.MeasureT-loop
-μ-loop memory₀ i₀ memory i = ?
+μ-loop memory₀ i₀ memory i = length memory₀ - i
 
--- src/entries.rt:52:5
 loop-holds : tie.Need-loop-holds Inv-loop μ-loop
-loop-holds c = ?
+loop-holds c = cleared-first
 
--- src/entries.rt:53:9
 mul-memory : tie.Need-mul-memory Inv-loop μ-loop
-mul-memory c = ?
+mul-memory c = search needs
 
--- src/entries.rt:53:9
 slice-write-memory : tie.Need-slice-write-memory Inv-loop μ-loop
-slice-write-memory c = ?
+slice-write-memory c = search needs
 
--- src/entries.rt:54:9
 add-i : tie.Need-add-i Inv-loop μ-loop
-add-i c = ?
+add-i c = search needs
 
--- src/entries.rt:52:5
 loop-less : tie.Need-loop-less Inv-loop μ-loop
-loop-less c = ?
+loop-less c = omega (arith, c .before .loop .inv .long, c .loop-test .taken)
 
--- src/entries.rt:52:5
 loop-again : tie.Need-loop-again Inv-loop μ-loop
-loop-again c = ?
+loop-again c = cleared-next (c .before .loop .inv) (c .loop-test .taken)
 
--- src/entries.rt:48:1
 same-length : tie.Need-same-length Inv-loop μ-loop
-same-length c = ?
+same-length c = c .before .loop .inv .long
 
--- src/entries.rt:48:1
 returns : tie.Need-returns Inv-loop μ-loop
-returns c = ?
+returns c = cleared-last (c .before .loop .inv) (c .loop-test .left)
 
 pub zero-spec : {M : Type 1} → statement M
 zero-spec =

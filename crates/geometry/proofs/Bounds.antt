@@ -3,9 +3,9 @@ use Prim.Native.Nat.{ℕ, _+_, _-_, _*_, _/_, _%_, _≤_, _<_}
 use mathlib.Core.Path.{_≡_, refl}
 use mathlib.Core.Bool.{Bool, true, false, cond, _&&_}
 use native.Mathlib.Omega.{arith}
-use borrow.Author.Tests.{ltb-true}
-use lib.Dec.{ltb}
-use Rattle.geometry.specs.Place.{has, mirror, cellIndex, cellAt, mapOf, isInverted, placed, outcome}
+use borrow.Author.Tests.{ltb-true, leb-false}
+use lib.Dec.{ltb, leb}
+use Rattle.geometry.specs.Place.{has, mirror, cellIndex, cellAt, mapOf, isInverted, placed, outcome, next}
 use Rattle.geometry.specs.declared.Window.{Window}
 use Rattle.geometry.specs.declared.Pointer.{Pointer}
 use Rattle.geometry.specs.declared.Mapped.{Mapped}
@@ -92,3 +92,25 @@ dropped-inverted w madctl p = go (isInverted w)
     go : (b : Bool) → isDropped (cond b Inverted (placed (mapOf madctl (p .x) (p .y)))) ≡ b
     go true = refl
     go false = kept (mapOf madctl (p .x) (p .y))
+
+-- A pointer within 319 stays there, in a window that lies within 319.
+pub record WindowWithin (w : Window) : Type 0 where
+  pub xs : w .xs ≤ 319
+  pub xe : w .xe ≤ 319
+  pub ys : w .ys ≤ 319
+  pub ye : w .ye ≤ 319
+
+pub record PointerWithin (p : Pointer) : Type 0 where
+  pub x : p .x ≤ 319
+  pub y : p .y ≤ 319
+
+pub next-within : (w : Window) (p : Pointer) → WindowWithin w → PointerWithin p → PointerWithin (next w p)
+unfolding next
+next-within w p hw hp = go (ltb (p .x) (w .xe)) (leb (w .ye) (p .y)) refl refl
+  where
+    go :
+        (a b : Bool) → ltb (p .x) (w .xe) ≡ a → leb (w .ye) (p .y) ≡ b →
+        PointerWithin (cond a (record { x = p .x + 1; y = p .y }) (record { x = w .xs; y = cond b (w .ys) (p .y + 1) }))
+    go true b e f = record { x = omega (arith, ltb-true (p .x) (w .xe) e, hw .xe); y = hp .y }
+    go false true e f = record { x = hw .xs; y = hw .ys }
+    go false false e f = record { x = hw .xs; y = omega (arith, leb-false (w .ye) (p .y) f, hw .ye) }

@@ -21,7 +21,7 @@ use Rattle.st7789.proofs.Tests.{none-of-two, current-placed}
 not-zero : (k : ℕ) → suc k ≡ 0 → ⊥
 not-zero k e = omega arith
 
-none-refused :
+pub none-refused :
     (a b c d : Bool) → _≡_ {A = ℕ} (cond a 1 (cond b 2 (cond c 4 (cond d 5 0)))) 0 → (a ≡ false) × (b ≡ false) × (c ≡ false) × (d ≡ false)
 none-refused true b c d e = absurd (not-zero 0 e)
 none-refused false true c d e = absurd (not-zero 1 e)

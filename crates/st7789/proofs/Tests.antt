@@ -40,7 +40,7 @@ pub none-of-two : (a b : Bool) → a || b ≡ false → (a ≡ false) × (b ≡ 
 none-of-two true b e = absurd (true≢false e)
 none-of-two false b e = (refl, e)
 
-none-of-four : (a b c d : Bool) → a || (b || (c || d)) ≡ false → (a ≡ false) × (b ≡ false) × (c ≡ false) × (d ≡ false)
+pub none-of-four : (a b c d : Bool) → a || (b || (c || d)) ≡ false → (a ≡ false) × (b ≡ false) × (c ≡ false) × (d ≡ false)
 none-of-four a b c d e =
     let e1 = none-of-two a (b || (c || d)) e in
     let e2 = none-of-two b (c || d) (e1 .1) in

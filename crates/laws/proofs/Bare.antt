@@ -1,0 +1,18 @@
+-- The transfer without memory: its refusals and its state are those of the full transfer over memory of the right length.
+use Prim.Native.Nat.{ℕ}
+use mathlib.Core.Path.{_≡_, ap}
+use mathlib.Core.Bool.{Bool}
+use mathlib.Core.List.{List}
+use lib.ListN.{length}
+use Rattle.st7789.specs.Refusals.{transferRefusal, bareRefusal}
+use Rattle.st7789.specs.Entries.{unlessRefused, moved, transferred, bareTransferred}
+use Rattle.st7789.specs.declared.Controller.{Controller}
+use Rattle.st7789.proofs.Accepted.{bare}
+
+pub same-refusal : (s : Controller) (n : ℕ) → transferRefusal s 76800 n ≡ bareRefusal s n
+same-refusal s n = bare s n
+
+pub same-state :
+    (t : ℕ) (dc : Bool) (bytes : List ℕ) (cs : Bool) (s : Controller) → transferred t dc bytes cs 76800 s ≡ bareTransferred t dc bytes cs s
+unfolding transferred bareTransferred
+same-state t dc bytes cs s = ap (λ n. unlessRefused n (moved t dc bytes cs s) s) (bare s (length bytes))

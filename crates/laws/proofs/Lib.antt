@@ -1,0 +1,6 @@
+pub mod Entries
+pub mod Traces
+pub mod Stays
+pub mod Reach
+pub mod Bare
+pub mod Counts

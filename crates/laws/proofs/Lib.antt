@@ -4,3 +4,5 @@ pub mod Stays
 pub mod Reach
 pub mod Bare
 pub mod Counts
+pub mod Meaning
+pub mod Examples

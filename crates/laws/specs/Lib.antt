@@ -1,1 +1,4 @@
 pub mod Valid
+pub mod Same
+pub mod Examples
+pub mod Cases

@@ -1,0 +1,23 @@
+-- Every worked example passes, and every case of the table of refusals is given its number, by computing them.
+use mathlib.Core.Path.{_≡_, refl}
+use mathlib.Core.Bool.{true}
+use Rattle.geometry.specs.Place.{mapOf, outcome, next}
+use Rattle.pixels.specs.Run.{stores, walkAfter, pixelsCounted}
+use Rattle.lists.specs.Params.{filled, differ}
+use Rattle.timing.specs.Lint.{brokenBy, timesAfter}
+use Rattle.chip.specs.Begin.{freshChip, chipBegun, chipReleased}
+use Rattle.chip.specs.Apply.{appliedIfDue, chipTaken}
+use Rattle.st7789.specs.Command.{begun, released}
+use Rattle.st7789.specs.Data.{ran, taken}
+use Rattle.st7789.specs.Refusals.{badState, countHigh, transferRefusal}
+use Rattle.st7789.specs.Entries.{freshController, moved, transferred, transferMemory}
+use Rattle.laws.specs.Examples.{rows, allPass}
+use Rattle.laws.specs.Cases.{cases, allGiven}
+
+pub all-pass : allPass rows ≡ true
+unfolding rows mapOf outcome next stores walkAfter pixelsCounted filled differ brokenBy timesAfter freshChip chipBegun chipReleased appliedIfDue chipTaken begun released ran taken badState countHigh transferRefusal freshController moved transferred transferMemory
+all-pass = refl
+
+pub all-given : allGiven cases ≡ true
+unfolding cases differ freshChip badState countHigh transferRefusal freshController
+all-given = refl

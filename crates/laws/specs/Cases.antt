@@ -1,0 +1,143 @@
+-- Document 01's table of refusals, case by case: states that no call reaches, each with one field at or past a limit, and the
+-- number that a transfer over so many cells and bytes is given.
+use Prim.Native.Nat.{ℕ, _+_, _^_}
+use mathlib.Core.Bool.{Bool, true, false, _&&_}
+use mathlib.Core.List.{List, [], _∷_}
+use lib.ListN.{set, replicate}
+use lib.Dec.{eqb}
+use Rattle.geometry.specs.declared.Window.{Window}
+use Rattle.geometry.specs.declared.Pointer.{Pointer}
+use Rattle.pixels.specs.declared.Carry.the-variants.{Empty}
+use Rattle.pixels.specs.declared.Span.{Span}
+use Rattle.pixels.specs.declared.Span.the-variants.{Rows}
+use Rattle.lists.specs.Params.{noParams}
+use Rattle.lists.specs.declared.Params.{Params}
+use Rattle.lists.specs.declared.TraceRecord.{TraceRecord}
+use Rattle.lists.specs.declared.Current.{Current}
+use Rattle.lists.specs.declared.Current.the-variants.{Nothing, At}
+use Rattle.chip.specs.declared.InForce.{InForce}
+use Rattle.chip.specs.declared.Chip.{Chip}
+use Rattle.st7789.specs.Parts.{withChip, withCounts, withDirty, withStored, withTrace, withWarnings}
+use Rattle.st7789.specs.Entries.{freshController}
+use Rattle.st7789.specs.Refusals.{transferRefusal}
+use Rattle.st7789.specs.declared.Controller.{Controller}
+
+pub record Case : Type 0 where
+  pub state : Controller
+  pub cells : ℕ
+  pub bytes : ℕ
+  pub number : ℕ
+
+abbrev pub allGiven : List Case → Bool
+allGiven [] = true
+allGiven (c ∷ cs) = eqb (transferRefusal (c .state) (c .cells) (c .bytes)) (c .number) && allGiven cs
+
+-- A fresh panel with one part set.
+abbrev pub fresh : Controller
+fresh = freshController true
+
+abbrev pub cornered : ℕ → ℕ → ℕ → ℕ → ℕ → ℕ → Controller
+cornered xs xe ys ye x y =
+    withChip
+    (record {
+      registers = fresh .chip .registers;
+      window = record { xs = xs; xe = xe; ys = ys; ye = ye };
+      walk = record { pointer = record { x = x; y = y }; carry = Empty };
+      decoder = fresh .chip .decoder;
+      times = fresh .chip .times;
+    })
+    fresh
+
+abbrev pub list : ℕ → ℕ → Params
+list n byte = record { bytes = set (replicate 14 0) 0 byte; count = n }
+
+abbrev pub inForce : Params → Controller → Controller
+inForce p s =
+    withChip
+    (record {
+      registers = s .chip .registers;
+      window = s .chip .window;
+      walk = s .chip .walk;
+      decoder = record { cmd = InForce.Nothing; params = p; applied = false; «in_pixels» = false };
+      times = s .chip .times;
+    })
+    s
+
+abbrev pub stored : Bool → Params → Controller
+stored present p = withStored (set (fresh .stored) 11 (record { present = present; params = p })) fresh
+
+-- `used` records, of which the first has these parameters and pixel bytes, and a current one
+abbrev pub traced : ℕ → Params → ℕ → Current → Controller → Controller
+traced used p pixels current s =
+    withTrace
+    (record { count = used; places = set (s .records) 0 (record { at = 0; «pixel_bytes» = pixels; params = p; cmd = 0x00 }) })
+    current s
+
+abbrev pub warned : ℕ → Controller
+warned n = withWarnings (record { count = n; places = fresh .warnings }) fresh
+
+abbrev pub counted : ℕ → ℕ → ℕ → ℕ → Controller
+counted a b c d = withCounts (record { commands = a; «ramwr_count» = b; «pixels_written» = c; «dropped_params» = d }) fresh
+
+-- a transfer of no bytes over the right memory
+abbrev pub given : ℕ → Controller → Case
+given n s = record { state = s; cells = 76800; bytes = 0; number = n }
+
+unfoldable pub cases : List Case
+cases =
+    given 0 fresh
+    -- "a window corner or pointer coordinate is above 319"
+    ∷ given 0 (cornered 319 319 319 319 319 319)
+    ∷ given 1 (cornered 320 239 0 319 0 0)
+    ∷ given 1 (cornered 0 320 0 319 0 0)
+    ∷ given 1 (cornered 0 239 320 319 0 0)
+    ∷ given 1 (cornered 0 239 0 320 0 0)
+    ∷ given 1 (cornered 0 239 0 319 320 0)
+    ∷ given 1 (cornered 0 239 0 319 0 320)
+    -- "a parameter list (in force, stored, or in a used trace record) is longer than 14"; an absent place and an unused record have none
+    ∷ given 0 (inForce (list 14 0) fresh)
+    ∷ given 1 (inForce (list 15 0) fresh)
+    ∷ given 0 (stored true (list 14 0))
+    ∷ given 1 (stored true (list 15 0))
+    ∷ given 0 (stored false (list 15 0))
+    ∷ given 0 (traced 1 (list 14 0) 0 Nothing fresh)
+    ∷ given 1 (traced 1 (list 15 0) 0 Nothing fresh)
+    ∷ given 0 (traced 0 (list 15 0) 0 Nothing fresh)
+    -- "trace or warnings count above 128"
+    ∷ given 0 (traced 128 noParams 0 Nothing fresh)
+    ∷ given 1 (traced 129 noParams 0 Nothing fresh)
+    ∷ given 0 (warned 128)
+    ∷ given 1 (warned 129)
+    -- "the dirty span has first above last, or last above 319"
+    ∷ given 0 (withDirty (Rows 319 319) fresh)
+    ∷ given 1 (withDirty (Rows 319 318) fresh)
+    ∷ given 0 (withDirty (Rows 0 319) fresh)
+    ∷ given 1 (withDirty (Rows 0 320) fresh)
+    -- "a current trace record isn't the last used one, or its parameters differ from those in force"
+    ∷ given 0 (traced 1 noParams 0 (At 0) fresh)
+    ∷ given 1 (traced 2 noParams 0 (At 0) fresh)
+    ∷ given 1 (traced 1 noParams 0 (At 1) fresh)
+    ∷ given 1 (traced 0 noParams 0 (At 0) fresh)
+    ∷ given 0 (inForce (list 1 7) (traced 1 (list 1 7) 0 (At 0) fresh))
+    ∷ given 1 (inForce (list 1 7) (traced 1 (list 1 8) 0 (At 0) fresh))
+    ∷ given 1 (inForce (list 1 7) (traced 1 (list 2 7) 0 (At 0) fresh))
+    ∷ given 0 (inForce (list 0 7) (traced 1 (list 0 8) 0 (At 0) fresh))
+    -- COUNT_HIGH: "above 2^63"; of the pixel bytes only the current record's
+    ∷ given 0 (counted (2 ^ 63) (2 ^ 63) (2 ^ 63) (2 ^ 63))
+    ∷ given 5 (counted (2 ^ 63 + 1) 0 0 0)
+    ∷ given 5 (counted 0 (2 ^ 63 + 1) 0 0)
+    ∷ given 5 (counted 0 0 (2 ^ 63 + 1) 0)
+    ∷ given 5 (counted 0 0 0 (2 ^ 63 + 1))
+    ∷ given 0 (traced 1 noParams (2 ^ 63) (At 0) fresh)
+    ∷ given 5 (traced 1 noParams (2 ^ 63 + 1) (At 0) fresh)
+    ∷ given 0 (traced 1 noParams (2 ^ 63 + 1) Nothing fresh)
+    -- BAD_MEMORY and TOO_LONG: "Exactly 65,536 bytes .. accepted"
+    ∷ record { state = fresh; cells = 76799; bytes = 0; number = 2 }
+    ∷ record { state = fresh; cells = 76801; bytes = 0; number = 2 }
+    ∷ record { state = fresh; cells = 76800; bytes = 65536; number = 0 }
+    ∷ record { state = fresh; cells = 76800; bytes = 65537; number = 4 }
+    -- "Tests run in number order"
+    ∷ record { state = warned 129; cells = 0; bytes = 65537; number = 1 }
+    ∷ record { state = counted (2 ^ 63 + 1) 0 0 0; cells = 0; bytes = 65537; number = 2 }
+    ∷ record { state = counted (2 ^ 63 + 1) 0 0 0; cells = 76800; bytes = 65537; number = 4 }
+    ∷ []

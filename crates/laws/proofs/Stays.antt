@@ -198,8 +198,8 @@ module _ (bytes : List ℕ) (s : Controller) (g : Good s) where
               warned = g .fine .warned;
               records = changed-short f l n p p long few-traced (g .sized .each) short (λ r e. e) (λ r e h d. d) (λ r h. h) k at-hand;
               span =
-                  within-span (marked (s .dirty) (stores (s .chip .window) (s .chip .registers .madctl) (s .chip .walk) bytes))
-                  (span-ordered (s .chip .window) (s .chip .registers .madctl) (s .chip .walk) bytes (s .dirty) (span-within (s .dirty) (g .fine .span)));
+                  within-span (marked (s .marks .dirty) (stores (s .chip .window) (s .chip .registers .madctl) (s .chip .walk) bytes))
+                  (span-ordered (s .chip .window) (s .chip .registers .madctl) (s .chip .walk) bytes (s .marks .dirty) (span-within (s .marks .dirty) (g .fine .span)));
               current =
                   here k (ran bytes s)
                   ∙ changed-current f l n p p long few-traced (g .sized .each) short (λ r e. e) (λ r e h d. d) (λ r h. h) k at-hand;

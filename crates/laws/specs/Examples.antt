@@ -166,7 +166,7 @@ rows =
     ∷ record {
       calls = order 0 (replicate 128 0x00) ∷ order 0 (0x21 ∷ []) ∷ [];
       passes = λ p.
-        p .controller .chip .registers .inverted && eqb (p .controller .counts .commands) 129 && eqb (p .controller .logs .traced) 128
-        && isNone (p .controller .logs .current);
+          p .controller .chip .registers .inverted && eqb (p .controller .counts .commands) 129 && eqb (p .controller .logs .traced) 128
+          && isNone (p .controller .logs .current);
     }
     ∷ []

@@ -40,7 +40,7 @@ pub record Same (s r : Controller) : Type 0 where
   pub run : s .chip .decoder .«in_pixels» ≡ r .chip .decoder .«in_pixels»
   pub times : s .chip .times ≡ r .chip .times
   pub counts : s .counts ≡ r .counts
-  pub dirty : s .dirty ≡ r .dirty
+  pub dirty : s .marks .dirty ≡ r .marks .dirty
   pub current : s .logs .current ≡ r .logs .current
   pub stored : map seenStored (s .stored) ≡ map seenStored (r .stored)
   pub trace : map entry (used (traceOf s)) ≡ map entry (used (traceOf r))

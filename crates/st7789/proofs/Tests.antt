@@ -67,7 +67,7 @@ pub record Fine (s : Controller) : Type 0 where
   pub traced : countBad (s .logs .traced) ≡ false
   pub warned : countBad (s .logs .warned) ≡ false
   pub records : some recordLong (used (traceOf s)) ≡ false
-  pub span : spanBad (s .dirty) ≡ false
+  pub span : spanBad (s .marks .dirty) ≡ false
   pub current : currentBad (s .logs .current) s ≡ false
 
 pub fine : (s : Controller) → badState s ≡ false → Fine s
@@ -116,7 +116,7 @@ module _
 
       pub bad-late :
           (r d k : Bool) → countBad (s .logs .traced) || countBad (s .logs .warned) ≡ false → r ≡ some recordLong (used (traceOf s)) →
-          d ≡ spanBad (s .dirty) → k ≡ currentBad (s .logs .current) s → r || (d || k) ≡ badState s
+          d ≡ spanBad (s .marks .dirty) → k ≡ currentBad (s .logs .current) s → r || (d || k) ≡ badState s
       unfolding badState
       bad-late r d k n er ed ek =
           let f = none-of-four w p (tooLong (s .chip .decoder .params)) l e in

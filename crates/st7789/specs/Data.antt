@@ -43,7 +43,7 @@ moreParams bytes r = record { at = r .at; «pixel_bytes» = r .«pixel_bytes»; 
 
 -- The walk of a data segment over the controller's window.
 abbrev pub walkOver : Controller → List ℕ → Walked
-walkOver s bytes = walkedOn (s .chip .window) (s .chip .registers .madctl) (unwalked (s .chip .walk) (s .dirty)) bytes
+walkOver s bytes = walkedOn (s .chip .window) (s .chip .registers .madctl) (unwalked (s .chip .walk) (s .marks .dirty)) bytes
 
 abbrev pub walkedChip : Walk → Chip → Chip
 walkedChip k s = record { registers = s .registers; window = s .window; walk = k; decoder = s .decoder; times = s .times }

@@ -27,7 +27,7 @@ freshController shows =
       power = record { powered = false; level = 0; scale = 1; duty = 0 };
       chip = freshChip;
       counts = record { commands = 0; «ramwr_count» = 0; «pixels_written» = 0; «dropped_params» = 0 };
-      dirty = Span.Nothing;
+      marks = record { dirty = Span.Nothing };
       logs = record { traced = 0; warned = 0; current = Current.Nothing };
       stored = replicate 12 (record { present = false; params = noParams });
       records = replicate 128 (record { at = 0; «pixel_bytes» = 0; params = noParams; cmd = 0 });

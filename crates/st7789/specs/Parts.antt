@@ -29,7 +29,7 @@ whole cfg power chip counts dirty logs stored records warnings =
       power = power;
       chip = chip;
       counts = counts;
-      dirty = dirty;
+      marks = record { dirty = dirty };
       logs = logs;
       stored = stored;
       records = records;
@@ -37,31 +37,31 @@ whole cfg power chip counts dirty logs stored records warnings =
     }
 
 abbrev pub withCfg : PanelConfig → Controller → Controller
-withCfg v s = whole v (s .power) (s .chip) (s .counts) (s .dirty) (s .logs) (s .stored) (s .records) (s .warnings)
+withCfg v s = whole v (s .power) (s .chip) (s .counts) (s .marks .dirty) (s .logs) (s .stored) (s .records) (s .warnings)
 
 abbrev pub withPower : Power → Controller → Controller
-withPower v s = whole (s .cfg) v (s .chip) (s .counts) (s .dirty) (s .logs) (s .stored) (s .records) (s .warnings)
+withPower v s = whole (s .cfg) v (s .chip) (s .counts) (s .marks .dirty) (s .logs) (s .stored) (s .records) (s .warnings)
 
 abbrev pub withChip : Chip → Controller → Controller
-withChip v s = whole (s .cfg) (s .power) v (s .counts) (s .dirty) (s .logs) (s .stored) (s .records) (s .warnings)
+withChip v s = whole (s .cfg) (s .power) v (s .counts) (s .marks .dirty) (s .logs) (s .stored) (s .records) (s .warnings)
 
 abbrev pub withCounts : Counts → Controller → Controller
-withCounts v s = whole (s .cfg) (s .power) (s .chip) v (s .dirty) (s .logs) (s .stored) (s .records) (s .warnings)
+withCounts v s = whole (s .cfg) (s .power) (s .chip) v (s .marks .dirty) (s .logs) (s .stored) (s .records) (s .warnings)
 
 abbrev pub withDirty : Span → Controller → Controller
 withDirty v s = whole (s .cfg) (s .power) (s .chip) (s .counts) v (s .logs) (s .stored) (s .records) (s .warnings)
 
 abbrev pub withStored : List Stored → Controller → Controller
-withStored v s = whole (s .cfg) (s .power) (s .chip) (s .counts) (s .dirty) (s .logs) v (s .records) (s .warnings)
+withStored v s = whole (s .cfg) (s .power) (s .chip) (s .counts) (s .marks .dirty) (s .logs) v (s .records) (s .warnings)
 
 abbrev pub withTrace : Fixed TraceRecord → Current → Controller → Controller
 withTrace v current s =
-    whole (s .cfg) (s .power) (s .chip) (s .counts) (s .dirty)
+    whole (s .cfg) (s .power) (s .chip) (s .counts) (s .marks .dirty)
     (record { traced = v .count; warned = s .logs .warned; current = current })
     (s .stored) (v .places) (s .warnings)
 
 abbrev pub withWarnings : Fixed Warning → Controller → Controller
 withWarnings v s =
-    whole (s .cfg) (s .power) (s .chip) (s .counts) (s .dirty)
+    whole (s .cfg) (s .power) (s .chip) (s .counts) (s .marks .dirty)
     (record { traced = s .logs .traced; warned = v .count; current = s .logs .current })
     (s .stored) (s .records) (v .places)

@@ -79,7 +79,7 @@ badState s =
     (some storedLong (s .stored) ||
     (countBad (s .logs .traced) ||
     (countBad (s .logs .warned) ||
-    (some recordLong (used (traceOf s)) || (spanBad (s .dirty) || currentBad (s .logs .current) s)))))))
+    (some recordLong (used (traceOf s)) || (spanBad (s .marks .dirty) || currentBad (s .logs .current) s)))))))
 
 -- The current trace record's pixel bytes, 0 where none is current.
 abbrev pub pixelsHeld : Current → List TraceRecord → ℕ

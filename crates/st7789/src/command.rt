@@ -82,13 +82,15 @@ impl Controller {
                 current: Current::At(n),
                 ..old
             };
-            return Controller { logs, ..self };
+            self.logs = logs;
+            return self;
         }
         let logs = Logs {
             current: Current::Nothing,
             ..old
         };
-        Controller { logs, ..self }
+        self.logs = logs;
+        self
     }
 
     fn begin_command(self, c: u8, t: u64) -> Controller
@@ -99,13 +101,10 @@ impl Controller {
         let old_chip = self.chip;
         let counts = old_counts.begin(c);
         let chip = old_chip.begin(c, t);
-        let warned = self.lint(c, t);
-        let decoded = Controller {
-            chip,
-            counts,
-            ..warned
-        };
-        decoded.trace_begin(c, t)
+        let mut linted = self.lint(c, t);
+        linted.counts = counts;
+        linted.chip = chip;
+        linted.trace_begin(c, t)
     }
 
     // Each byte begins a command.
@@ -123,7 +122,7 @@ impl Controller {
     }
 
     // CS goes high: nothing is in force, no record is current, and the pointer stays.
-    pub(crate) fn cs_high(self) -> Controller
+    pub(crate) fn cs_high(mut self) -> Controller
         ensures { λ r. ⌜ r ≡ released self ⌝ }
     {
         let old_chip = self.chip;
@@ -133,6 +132,8 @@ impl Controller {
             current: Current::Nothing,
             ..old
         };
-        Controller { chip, logs, ..self }
+        self.chip = chip;
+        self.logs = logs;
+        self
     }
 }

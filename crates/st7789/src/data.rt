@@ -9,9 +9,8 @@ ghost use Rattle.st7789.specs.Parts.{withStored};
 ghost use Rattle.st7789.specs.Refusals.{pixelsHeld};
 ghost use Rattle.st7789.specs.Room.{Placed, Room};
 use crate::Controller;
-use crate::Counts;
+use crate::Marks;
 use crate::wide;
-use chip::Chip;
 use chip::InForce;
 use lists::Current;
 use lists::Params;
@@ -118,26 +117,22 @@ impl Controller {
         ensures { λ r. ⌜ r ≡ ran (now (bytes .entry)) self ⌝ }
         ensures { λ r. ⌜ now (memory .exit) ≡ written (now (memory .entry)) (stores (self .chip .window) (self .chip .registers .madctl) (self .chip .walk) (now (bytes .entry))) ⌝ }
     {
-        let chip = self.chip;
+        let mut chip = self.chip;
         let window = chip.window;
         let walk = chip.walk;
-        let dirty = self.dirty;
+        let marks = self.marks;
+        let dirty = marks.dirty;
         let run = pixels::write_pixels(window, chip.registers.madctl, walk, dirty, bytes, memory);
-        let traced = self.trace_pixels(bytes.len() as u64);
+        let mut after = self.trace_pixels(bytes.len() as u64);
         let walk = run.walk;
         let dirty = run.dirty;
-        let chip = Chip { walk, ..chip };
-        let old = traced.counts;
-        let counts = Counts {
-            pixels_written: old.pixels_written + run.pixels,
-            ..old
-        };
-        Controller {
-            chip,
-            counts,
-            dirty,
-            ..traced
-        }
+        let marks = Marks { dirty };
+        chip.walk = walk;
+        after.chip = chip;
+        let written = after.counts.pixels_written + run.pixels;
+        after.counts.pixels_written = written;
+        after.marks = marks;
+        after
     }
 
     fn take_params(self, c: u8, bytes: &[u8]) -> Controller
@@ -150,18 +145,11 @@ impl Controller {
         let lost = excess(bytes.len(), params.count);
         let list = params.append(bytes);
         let chip = old_chip.take(c, bytes);
-        let traced = self.trace_params(bytes);
-        let old = traced.counts;
-        let counts = Counts {
-            dropped_params: old.dropped_params + lost,
-            ..old
-        };
-        let filled = Controller {
-            chip,
-            counts,
-            ..traced
-        };
-        filled.store(c, list)
+        let mut after = self.trace_params(bytes);
+        after.chip = chip;
+        let dropped = after.counts.dropped_params + lost;
+        after.counts.dropped_params = dropped;
+        after.store(c, list)
     }
 
     pub(crate) fn data(self, bytes: &[u8], memory: &mut [u16]) -> Controller

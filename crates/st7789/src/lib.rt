@@ -40,13 +40,18 @@ pub struct Logs {
     pub current: Current,
 }
 
+// The rows that the next publishing copies.
+pub struct Marks {
+    pub dirty: Span,
+}
+
 // The lists lie flat, so that a store changes them in place.
 pub struct Controller {
     pub cfg: PanelConfig,
     pub power: Power,
     pub chip: Chip,
     pub counts: Counts,
-    pub dirty: Span,
+    pub marks: Marks,
     pub logs: Logs,
     pub stored: [Stored; 12],
     pub records: [TraceRecord; 128],

@@ -114,7 +114,8 @@ impl Controller {
         let decoder = chip.decoder;
         let params = decoder.params;
         let stored = self.stored;
-        let dirty = self.dirty;
+        let marks = self.marks;
+        let dirty = marks.dirty;
         let corners = window_bad(window);
         let at = pointer_bad(pointer);
         let lists = stored_long(stored);

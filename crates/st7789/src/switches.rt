@@ -4,6 +4,7 @@ ghost use Rattle.st7789.specs.Entries.{freshController, poweredSet, show
 use crate::Controller;
 use crate::Counts;
 use crate::Logs;
+use crate::Marks;
 use crate::PanelConfig;
 use crate::Power;
 use crate::Taken;
@@ -55,12 +56,15 @@ impl Controller {
             rule: 0,
             cmd: 0,
         };
+        let marks = Marks {
+            dirty: Span::Nothing,
+        };
         Controller {
             cfg,
             power,
             chip,
             counts,
-            dirty: Span::Nothing,
+            marks,
             logs,
             stored: [absent; 12],
             records: [record; 128],
@@ -94,11 +98,14 @@ impl Controller {
     }
 
     // Marks every row, so that the next publishing copies everything.
-    pub fn mark_all_dirty(self) -> Controller
+    pub fn mark_all_dirty(mut self) -> Controller
         ensures answer { λ r. ⌜ r ≡ allMarked self ⌝ }
     {
-        let dirty = Span::Rows(0, 319);
-        Controller { dirty, ..self }
+        let marks = Marks {
+            dirty: Span::Rows(0, 319),
+        };
+        self.marks = marks;
+        self
     }
 
     // The warnings and their count as they are, and the controller with none.

@@ -19,13 +19,13 @@ returns-2 : tie.Need-returns-2
 returns-2 c = bad-counts _ _ _ _ (c .before .before .before .before .before .before .before .window-bad .ensures) (c .before .before .before .before .before .before .pointer-bad .ensures) (c .before .before .before .before .before .stored-long .ensures) (c .before .before .before .if1 .left) (c .if2 .taken)
 
 records-long-requires : tie.Need-records-long-requires
-records-long-requires c κs = counts-within (c .before .before .before .before .before .before .before .before .before .before .before .before .before .before .before .args .self) (c .if2 .left)
+records-long-requires c κs = counts-within (c .before .before .before .before .before .before .before .before .before .before .before .before .before .before .before .before .args .self) (c .if2 .left)
 
 span-bad-requires : tie.Need-span-bad-requires
 span-bad-requires c κs = search needs
 
 current-bad-requires : tie.Need-current-bad-requires
-current-bad-requires c κs = counts-within (c .before .before .before .before .before .before .before .before .before .before .before .before .before .before .before .before .before .args .self) (c .before .before .if2 .left)
+current-bad-requires c κs = counts-within (c .before .before .before .before .before .before .before .before .before .before .before .before .before .before .before .before .before .before .args .self) (c .before .before .if2 .left)
 
 returns-3 : tie.Need-returns-3
 returns-3 c = bad-late _ _ _ _ (c .before .before .before .before .before .before .before .before .before .before .window-bad .ensures) (c .before .before .before .before .before .before .before .before .before .pointer-bad .ensures) (c .before .before .before .before .before .before .before .before .stored-long .ensures) (c .before .before .before .before .before .before .if1 .left) _ _ _ (c .before .before .before .if2 .left) (c .before .before .records-long .ensures) (c .before .span-bad .ensures) (c .current-bad .ensures)

@@ -17,7 +17,7 @@ trace-begin-requires c κs = search needs
 
 returns : tie.Need-returns
 unfolding begun
-returns c = simp (c .trace-begin .ensures, c .before .before .before .before .before .before .before .lint .ensures, c .before .before .before .before .before .before .before .before .begin2 .ensures, c .before .before .before .before .before .before .before .before .before .begin .ensures)
+returns c = simp (c .trace-begin .ensures, c .before .lint .ensures, c .before .before .begin2 .ensures, c .before .before .before .begin .ensures)
 
 pub begin-command-spec : {M : Type 1} → statement M
 begin-command-spec =

@@ -8,7 +8,7 @@ release-requires c κs = search needs
 
 returns : tie.Need-returns
 unfolding released
-returns c = simp (c .before .before .before .before .before .before .before .release .ensures)
+returns c = simp (c .before .release .ensures)
 
 pub cs-high-spec : {M : Type 1} → statement M
 cs-high-spec = tie.close (tie.spec release-requires returns)

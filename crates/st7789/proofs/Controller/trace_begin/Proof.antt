@@ -19,10 +19,10 @@ add-t16 : tie.Need-add-t16
 add-t16 c = search needs
 
 returns : tie.Need-returns
-returns c = simp (lt-ltb _ _ (c .before .before .before .before .before .before .before .before .before .if1 .taken), c .before .before .before .before .before .before .before .before .wide .ensures, c .before .before .before .before .before .before .before .empty .ensures)
+returns c = simp (lt-ltb _ _ (c .before .before .if1 .taken), c .before .wide .ensures, c .empty .ensures)
 
 returns-2 : tie.Need-returns-2
-returns-2 c = simp (le-ltb _ _ (c .before .before .before .before .before .before .before .if1 .left))
+returns-2 c = simp (le-ltb _ _ (c .if1 .left))
 
 pub trace-begin-spec : {M : Type 1} → statement M
 trace-begin-spec =

@@ -9,15 +9,16 @@ write-pixels-requires c κs = search needs
 trace-pixels-requires : tie.Need-trace-pixels-requires
 trace-pixels-requires c κs = search needs
 
-add-t18 : tie.Need-add-t18
-add-t18 c = pixels-fit _ _ _ _ _ (c .before .before .before .before .before .before .before .before .before .before .before .before .before .before .before .before .before .before .pre) (c .before .before .before .before .before .before .before .before .before .before .before .write-pixels .ensures .0) (c .before .before .before .before .before .before .before .before .trace-pixels .ensures)
+add-written : tie.Need-add-written
+add-written c = pixels-fit _ _ _ _ _ (c .before .before .before .before .before .before .before .before .before .before .before .before .before .before .pre) (c .before .before .before .before .before .before .write-pixels .ensures .0) (c .before .before .before .trace-pixels .ensures)
 
 same-length : tie.Need-same-length
 same-length c = search needs
 
 returns : tie.Need-returns
-returns c = (pixels-put _ _ _ _ (c .before .before .before .before .before .before .before .before .before .before .before .before .before .before .before .before .before .write-pixels .ensures .0) (c .before .before .before .before .before .before .before .before .before .before .before .before .before .before .trace-pixels .ensures), c .before .before .before .before .before .before .before .before .before .before .before .before .before .before .before .before .before .write-pixels .ensures .1)
+returns c = (pixels-put _ _ _ _ (c .before .before .before .before .before .before .before .write-pixels .ensures .0) (c .before .before .before .before .trace-pixels .ensures), c .before .before .before .before .before .before .before .write-pixels .ensures .1)
 
 pub write-pixels-spec : {M : Type 1} → statement M
 write-pixels-spec =
-    tie.close (tie.spec write-pixels-requires trace-pixels-requires add-t18 same-length returns)
+    tie.close
+    (tie.spec write-pixels-requires trace-pixels-requires add-written same-length returns)

@@ -14,8 +14,8 @@ use Rattle.st7789.specs.Parts.{whole}
 use Rattle.st7789.specs.Data.{noRecord}
 use Rattle.st7789.specs.Refusals.{transferRefusal, bareRefusal, memoryRefusal, spanBad, countBad, badState}
 use Rattle.st7789.specs.Entries.{freshController, unlessRefused, allRows, isBoardRail, railReset, moved, transferred, bareTransferred, resetState, poweredSet, showsSet, brightnessSet, allMarked, warningsTaken}
-use Rattle.st7789.specs.declared.PanelConfig.{PanelConfig}
-use Rattle.st7789.specs.declared.Power.{Power}
+use Rattle.board.specs.declared.PanelConfig.{PanelConfig}
+use Rattle.board.specs.declared.Power.{Power}
 use Rattle.st7789.specs.declared.Counts.{Counts}
 use Rattle.st7789.specs.declared.BoardDomain.{BoardDomain}
 use Rattle.st7789.specs.declared.Controller.{Controller}

@@ -9,6 +9,7 @@ use Rattle.pixels.specs.declared.Span.{Span}
 use Rattle.pixels.specs.declared.Span.the-variants.{Rows}
 use Rattle.lists.specs.Params.{noParams}
 use Rattle.lists.specs.declared.Current.{Current}
+use Rattle.board.specs.Board.{switchedTo, unpowered, poweredTo, litTo}
 use Rattle.chip.specs.Begin.{freshChip}
 use Rattle.st7789.specs.Parts.{withCfg, withPower, withDirty, withWarnings}
 use Rattle.st7789.specs.Command.{begunAll, released}
@@ -23,8 +24,8 @@ use Rattle.st7789.specs.declared.Controller.{Controller}
 unfoldable pub freshController : Bool → Controller
 freshController shows =
     record {
-      cfg = record { «invon_shows_ram» = shows };
-      power = record { powered = false; level = 0; scale = 1; duty = 0 };
+      cfg = switchedTo shows;
+      power = unpowered;
       chip = freshChip;
       counts = record { commands = 0; «ramwr_count» = 0; «pixels_written» = 0; «dropped_params» = 0 };
       marks = record { dirty = Span.Nothing };
@@ -86,14 +87,13 @@ newMemory memory = unlessRefused (memoryRefusal (length memory)) (zeroed memory)
 
 -- "Setting power, `invon_shows_ram`, brightness, mark-all and taking warnings are never refused."
 abbrev pub poweredSet : Bool → Controller → Controller
-poweredSet on s = withPower (record { powered = on; level = s .power .level; scale = s .power .scale; duty = s .power .duty }) s
+poweredSet on s = withPower (poweredTo on (s .power)) s
 
 abbrev pub showsSet : Bool → Controller → Controller
-showsSet shows s = withCfg (record { «invon_shows_ram» = shows }) s
+showsSet shows s = withCfg (switchedTo shows) s
 
 abbrev pub brightnessSet : ℕ → ℕ → ℕ → Controller → Controller
-brightnessSet level scale duty s =
-    withPower (record { powered = s .power .powered; level = level; scale = scale; duty = duty }) s
+brightnessSet level scale duty s = withPower (litTo level scale duty (s .power)) s
 
 abbrev pub allMarked : Controller → Controller
 allMarked s = withDirty allRows s

@@ -8,8 +8,8 @@ use Rattle.lists.specs.declared.TraceRecord.{TraceRecord}
 use Rattle.lists.specs.declared.Warning.{Warning}
 use Rattle.lists.specs.declared.Current.{Current}
 use Rattle.chip.specs.declared.Chip.{Chip}
-use Rattle.st7789.specs.declared.PanelConfig.{PanelConfig}
-use Rattle.st7789.specs.declared.Power.{Power}
+use Rattle.board.specs.declared.PanelConfig.{PanelConfig}
+use Rattle.board.specs.declared.Power.{Power}
 use Rattle.st7789.specs.declared.Counts.{Counts}
 use Rattle.st7789.specs.declared.Logs.{Logs}
 use Rattle.st7789.specs.declared.Controller.{Controller}

@@ -1,5 +1,7 @@
 // The ST7789P3 controller: the chip with its lists, its counts, and the span of rows to publish. Panel memory is lent.
 ghost use mathlib.Core.Path.{_≡_};
+use board::PanelConfig;
+use board::Power;
 use chip::Chip;
 use lists::Current;
 use lists::Stored;
@@ -12,19 +14,6 @@ mod data;
 mod entries;
 mod refusals;
 mod switches;
-
-// Whether INVON shows memory unmodified. Kept by every reset.
-pub struct PanelConfig {
-    pub invon_shows_ram: bool,
-}
-
-// What the board sets: the rail, the backlight as level over scale, and the frame's duty.
-pub struct Power {
-    pub powered: bool,
-    pub level: u32,
-    pub scale: u32,
-    pub duty: u16,
-}
 
 pub struct Counts {
     pub commands: u64,

@@ -5,9 +5,9 @@ use crate::Controller;
 use crate::Counts;
 use crate::Logs;
 use crate::Marks;
-use crate::PanelConfig;
-use crate::Power;
 use crate::Taken;
+use board::PanelConfig;
+use board::Power;
 use chip::Chip;
 use lists::Current;
 use lists::Params;
@@ -21,13 +21,8 @@ impl Controller {
     pub fn fresh(invon_shows_ram: bool) -> Controller
         ensures answer { λ r. ⌜ r ≡ freshController «invon_shows_ram» ⌝ }
     {
-        let cfg = PanelConfig { invon_shows_ram };
-        let power = Power {
-            powered: false,
-            level: 0,
-            scale: 1,
-            duty: 0,
-        };
+        let cfg = PanelConfig::new(invon_shows_ram);
+        let power = Power::fresh();
         let chip = Chip::fresh();
         let counts = Counts {
             commands: 0,
@@ -76,14 +71,17 @@ impl Controller {
     pub fn set_powered(mut self, on: bool) -> Controller
         ensures answer { λ r. ⌜ r ≡ poweredSet on self ⌝ }
     {
-        self.power.powered = on;
+        let old = self.power;
+        let power = old.set_powered(on);
+        self.power = power;
         self
     }
 
     pub fn set_invon_shows_ram(mut self, shows_ram: bool) -> Controller
         ensures answer { λ r. ⌜ r ≡ showsSet «shows_ram» self ⌝ }
     {
-        self.cfg.invon_shows_ram = shows_ram;
+        let cfg = PanelConfig::new(shows_ram);
+        self.cfg = cfg;
         self
     }
 
@@ -91,9 +89,9 @@ impl Controller {
     pub fn set_brightness(mut self, level: u32, scale: u32, duty: u16) -> Controller
         ensures answer { λ r. ⌜ r ≡ brightnessSet level scale duty self ⌝ }
     {
-        self.power.level = level;
-        self.power.scale = scale;
-        self.power.duty = duty;
+        let old = self.power;
+        let power = old.set_brightness(level, scale, duty);
+        self.power = power;
         self
     }
 

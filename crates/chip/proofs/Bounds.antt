@@ -1,11 +1,9 @@
 -- What the chip keeps within bounds: window and pointer within 319, and at most 14 parameters.
-use Prim.Native.Nat.{ℕ, _+_, _-_, _≤_, min}
-use mathlib.Core.Path.{_≡_, refl, sym, ap}
+use Prim.Native.Nat.{ℕ, _-_, _≤_, min}
 use mathlib.Core.Bool.{Bool, true, false, cond}
 use mathlib.Core.List.{List}
 use native.Mathlib.Omega.{arith}
 use lib.Dec.{eqb}
-use lib.ListN.{length}
 use Rattle.geometry.specs.Place.{has, largestColumn, largestRow}
 use Rattle.geometry.specs.declared.Window.{Window}
 use Rattle.geometry.proofs.Bounds.{WindowWithin, PointerWithin}

@@ -1,6 +1,6 @@
 -- No counter runs over: a transfer of n bytes adds at most n to each, so after an accepted one none is above 2^63 + 65,536.
-use Prim.Native.Nat.{ℕ, suc, _+_, _-_, _^_, _≤_, _<_}
-use mathlib.Core.Path.{_≡_, refl, sym, ap, _∙_}
+use Prim.Native.Nat.{ℕ, _+_, _-_, _^_, _≤_}
+use mathlib.Core.Path.{_≡_, refl, ap}
 use mathlib.Core.Bool.{Bool, true, false, cond, not}
 use mathlib.Core.List.{List, [], _∷_}
 use native.Mathlib.Omega.{arith}
@@ -15,6 +15,7 @@ use Rattle.lists.specs.declared.Current.{Current}
 use Rattle.lists.specs.declared.Current.the-variants.{Nothing, At}
 use Rattle.chip.specs.declared.InForce.{InForce}
 use Rattle.chip.specs.declared.InForce.the-variants.{Code}
+use Rattle.lists.proofs.Bools.{neither}
 use Rattle.st7789.specs.Parts.{traceOf}
 use Rattle.st7789.specs.Command.{begunRecord, begun, begunAll, released}
 use Rattle.st7789.specs.Data.{noRecord, onCurrent, morePixels, moreParams, ran, taken, dataFor, dataIn}
@@ -22,9 +23,10 @@ use Rattle.st7789.specs.Refusals.{high, pixelsHeld, countHigh, badState, transf
 use Rattle.st7789.specs.Room.{Placed}
 use Rattle.st7789.specs.Entries.{moved}
 use Rattle.st7789.specs.declared.Controller.{Controller}
-use Rattle.st7789.proofs.Tests.{none-of-two, current-placed}
+use Rattle.st7789.proofs.Commands.{one-more}
+use Rattle.st7789.proofs.Tests.{current-placed}
 use Rattle.st7789.proofs.Accepted.{none-refused}
-use Rattle.laws.proofs.Stays.{Good, begun-good, all-good, data-good}
+use Rattle.laws.proofs.Stays.{Good, begun-good}
 use Rattle.laws.proofs.Reach.{good-not-bad}
 
 abbrev heldBy : Controller → ℕ
@@ -36,10 +38,6 @@ pub record Grown (n : ℕ) (s r : Controller) : Type 0 where
   pub pixels : r .counts .«pixels_written» ≤ s .counts .«pixels_written» + n
   pub dropped : r .counts .«dropped_params» ≤ s .counts .«dropped_params» + n
   pub held : heldBy r ≤ heldBy s + n
-
-one-more : (b : Bool) (n : ℕ) → cond b (n + 1) n ≤ n + 1
-one-more true n = omega arith
-one-more false n = omega arith
 
 -- A command begins: its record has no pixel bytes yet.
 begun-held : (c t : ℕ) (s : Controller) → Good s → heldBy (begun c t s) ≡ 0
@@ -172,10 +170,10 @@ unfolding transferRefusal countHigh
 never-over t dc bytes cs cells s g e =
     let r = none-refused (badState s) (not (eqb cells 76800)) (ltb 65536 (length bytes)) (countHigh s) e in
     let n : length bytes ≤ 65536 = ltb-false 65536 (length bytes) (r .2) in
-    let e1 = none-of-two (high (s .counts .commands)) _ (r .3) in
-    let e2 = none-of-two (high (s .counts .«ramwr_count»)) _ (e1 .1) in
-    let e3 = none-of-two (high (s .counts .«pixels_written»)) _ (e2 .1) in
-    let e4 = none-of-two (high (s .counts .«dropped_params»)) _ (e3 .1) in
+    let e1 = neither (high (s .counts .commands)) _ (r .3) in
+    let e2 = neither (high (s .counts .«ramwr_count»)) _ (e1 .1) in
+    let e3 = neither (high (s .counts .«pixels_written»)) _ (e2 .1) in
+    let e4 = neither (high (s .counts .«dropped_params»)) _ (e3 .1) in
     let h = moved-grown t dc bytes cs s g in
     record {
       commands = omega (arith, h .commands, low (s .counts .commands) (e1 .0));

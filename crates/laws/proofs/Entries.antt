@@ -1,24 +1,24 @@
 -- A test that no entry of a list passes: what that says of an entry, and which changes keep it.
 use Prim.Native.Nat.{ℕ, zero, suc, _<_}
 use mathlib.Core.Path.{_≡_, refl}
-use mathlib.Core.Bool.{Bool, true, false, _||_}
+use mathlib.Core.Bool.{Bool, false}
 use mathlib.Core.List.{List, [], _∷_, _++_}
 use native.Mathlib.Nat.{not-suc-le-zero, le-of-suc-le-suc}
 use lib.ListN.{length, getD, set}
+use Rattle.lists.proofs.Bools.{neither}
 use Rattle.st7789.specs.Refusals.{some}
-use Rattle.st7789.proofs.Tests.{none-of-two}
 
 module _ {A : Type 0} (test : A → Bool) where
   pub none-append : (l m : List A) → some test l ≡ false → some test m ≡ false → some test (l ++ m) ≡ false
   none-append [] m e f = f
-  none-append (x ∷ l) m e f = let n = none-of-two (test x) (some test l) e in rw (n .0) (none-append l m (n .1) f)
+  none-append (x ∷ l) m e f = let n = neither (test x) (some test l) e in rw (n .0) (none-append l m (n .1) f)
 
   pub none-set : (l : List A) (i : ℕ) (x : A) → some test l ≡ false → test x ≡ false → some test (set l i x) ≡ false
   none-set [] i x e f = refl
-  none-set (y ∷ l) zero x e f = let n = none-of-two (test y) (some test l) e in rw f (n .1)
-  none-set (y ∷ l) (suc i) x e f = let n = none-of-two (test y) (some test l) e in rw (n .0) (none-set l i x (n .1) f)
+  none-set (y ∷ l) zero x e f = let n = neither (test y) (some test l) e in rw f (n .1)
+  none-set (y ∷ l) (suc i) x e f = let n = neither (test y) (some test l) e in rw (n .0) (none-set l i x (n .1) f)
 
   pub none-at : (l : List A) (i : ℕ) (d : A) → some test l ≡ false → i < length l → test (getD l i d) ≡ false
   none-at [] i d e h = absurd (not-suc-le-zero h)
-  none-at (y ∷ l) zero d e h = none-of-two (test y) (some test l) e .0
-  none-at (y ∷ l) (suc i) d e h = none-at l i d (none-of-two (test y) (some test l) e .1) (le-of-suc-le-suc h)
+  none-at (y ∷ l) zero d e h = neither (test y) (some test l) e .0
+  none-at (y ∷ l) (suc i) d e h = none-at l i d (neither (test y) (some test l) e .1) (le-of-suc-le-suc h)

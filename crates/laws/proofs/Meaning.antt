@@ -1,7 +1,7 @@
 -- What the lists mean: the used part after a command, and after data for it. `Same` is an equivalence.
 use Prim.Native.Nat.{ℕ, _+_, _≤_, _<_}
 use mathlib.Core.Path.{_≡_, refl, sym, _∙_}
-use mathlib.Core.List.{List, [], _∷_, _++_, map}
+use mathlib.Core.List.{[], _∷_, _++_, map}
 use lib.ListN.{length, take, set, getD}
 use lib.Seq.{take-set-lt}
 use native.Mathlib.Omega.{arith}

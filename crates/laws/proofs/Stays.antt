@@ -1,12 +1,12 @@
 -- From a good state every accepted call leaves a good state, so BAD_STATE never arises from a fresh panel.
-use Prim.Native.Nat.{ℕ, _+_, _-_, _≤_, _<_, min}
+use Prim.Native.Nat.{ℕ, _+_, _-_, _≤_}
 use mathlib.Core.Path.{_≡_, refl, sym, ap, _∙_}
-use mathlib.Core.Bool.{Bool, true, false, cond, _||_}
+use mathlib.Core.Bool.{Bool, true, false, cond}
 use mathlib.Core.List.{List, [], _∷_, map}
 use native.Mathlib.Omega.{arith}
-use borrow.Author.Tests.{ltb-true, ltb-false, le-ltb, lt-ltb}
+use borrow.Author.Tests.{ltb-true, ltb-false, le-ltb}
 use lib.Dec.{ltb}
-use lib.ListN.{length, set, length-set, length-replicate, getD-replicate}
+use lib.ListN.{length, set, length-set}
 use Rattle.geometry.specs.declared.Window.{Window}
 use Rattle.geometry.specs.declared.Pointer.{Pointer}
 use Rattle.geometry.proofs.Bounds.{WindowWithin, PointerWithin}
@@ -14,7 +14,7 @@ use Rattle.pixels.specs.Run.{stores, marked, walkAfter}
 use Rattle.pixels.specs.declared.Span.{Span}
 use Rattle.pixels.specs.declared.Span.the-variants.{Rows}
 use Rattle.pixels.proofs.Bounds.{walk-within, Ordered, span-ordered}
-use Rattle.lists.specs.Fixed.{push, pushAll}
+use Rattle.lists.specs.Fixed.{pushAll}
 use Rattle.lists.specs.Params.{noParams, filled, differ}
 use Rattle.lists.specs.declared.Params.{Params}
 use Rattle.lists.specs.declared.TraceRecord.{TraceRecord}
@@ -24,22 +24,22 @@ use Rattle.lists.proofs.Fixed.{count-all}
 use Rattle.lists.proofs.Filling.{count-filled, length-filled}
 use Rattle.lists.proofs.Alike.{params-same, filled-alike}
 use Rattle.timing.specs.Lint.{brokenBy, rulesOf}
-use Rattle.chip.specs.Begin.{chipBegun, chipReleased, freshChip}
+use Rattle.chip.specs.Begin.{chipBegun, chipReleased}
 use Rattle.chip.specs.Apply.{due, chipFilled, chipApplied, appliedIfDue, chipTaken}
 use Rattle.chip.specs.declared.InForce.{InForce}
 use Rattle.chip.specs.declared.InForce.the-variants.{Code}
-use Rattle.chip.specs.declared.Chip.{Chip}
 use Rattle.chip.proofs.Bounds.{ChipWithin, begun-within, released-within, taken-within}
+use Rattle.lists.proofs.Bools.{neither}
 use Rattle.st7789.specs.Parts.{traceOf, warningsOf, withChip, withCounts, withTrace}
 use Rattle.st7789.specs.Command.{warning, linted, countsBegun, begunRecord, traced, begun, begunAll, released}
 use Rattle.st7789.specs.Data.{onCurrent, morePixels, moreParams, placeOf, ran, taken, dataFor, dataIn}
-use Rattle.st7789.specs.Refusals.{some, windowBad, pointerBad, tooLong, storedLong, recordLong, countBad, spanBad, currentBad, badState}
+use Rattle.st7789.specs.Refusals.{windowBad, pointerBad, tooLong, storedLong, recordLong, countBad, spanBad, currentBad}
 use Rattle.st7789.specs.Entries.{moved}
 use Rattle.st7789.specs.declared.Controller.{Controller}
-use Rattle.st7789.proofs.Tests.{none-of-two, none-of-four, Fine, fine, not-bad}
+use Rattle.st7789.proofs.Tests.{none-of-four, Fine, fine}
 use Rattle.laws.specs.Valid.{Sized}
 use Rattle.laws.proofs.Entries.{none-set}
-use Rattle.laws.proofs.Traces.{Roomy, roomy-set, badHere, pushed-short, pushed-current, changed-short, changed-current, changed-long, changed-roomy}
+use Rattle.laws.proofs.Traces.{roomy-set, badHere, pushed-short, pushed-current, changed-short, changed-current, changed-long, changed-roomy}
 
 -- A good state: not BAD_STATE, with arrays of the lengths that the types say.
 pub record Good (s : Controller) : Type 0 where
@@ -62,7 +62,7 @@ within-window w h = rw (le-ltb 319 (w .xs) (h .xs), le-ltb 319 (w .xe) (h .xe), 
 
 pointer-within : (p : Pointer) → pointerBad p ≡ false → PointerWithin p
 pointer-within p e =
-    let t = none-of-two (ltb 319 (p .x)) (ltb 319 (p .y)) e in
+    let t = neither (ltb 319 (p .x)) (ltb 319 (p .y)) e in
     record { x = ltb-false 319 (p .x) (t .0); y = ltb-false 319 (p .y) (t .1) }
 
 within-pointer : (p : Pointer) → PointerWithin p → pointerBad p ≡ false
@@ -71,7 +71,7 @@ within-pointer p h = rw (le-ltb 319 (p .x) (h .x), le-ltb 319 (p .y) (h .y))
 span-within : (d : Span) → spanBad d ≡ false → Ordered d
 span-within Span.Nothing e = tt
 span-within (Rows first last) e =
-    let t = none-of-two (ltb last first) (ltb 319 last) e in
+    let t = neither (ltb last first) (ltb 319 last) e in
     (ltb-false last first (t .0), ltb-false 319 last (t .1))
 
 within-span : (d : Span) → Ordered d → spanBad d ≡ false

@@ -1,8 +1,8 @@
 -- The trace in a good state: no used record is too long, and the current one is the last used, with the parameters in force.
 use Prim.Native.Nat.{ℕ, _+_, _≤_, _<_}
-use mathlib.Core.Path.{_≡_, refl, sym, ap, _∙_}
-use mathlib.Core.Bool.{Bool, true, false, cond, not, _||_}
-use mathlib.Core.List.{List, [], _∷_, _++_}
+use mathlib.Core.Path.{_≡_, refl, ap, _∙_}
+use mathlib.Core.Bool.{Bool, true, false, not, _||_}
+use mathlib.Core.List.{List, [], _∷_}
 use native.Mathlib.Numerals.{add-one}
 use native.Mathlib.Omega.{arith}
 use borrow.Author.Tests.{eq-eqb, eqb-true, eqb-false, not-false}
@@ -14,9 +14,9 @@ use Rattle.lists.specs.declared.Params.{Params}
 use Rattle.lists.specs.declared.TraceRecord.{TraceRecord}
 use Rattle.lists.specs.declared.Current.{Current}
 use Rattle.lists.specs.declared.Current.the-variants.{Nothing, At}
+use Rattle.lists.proofs.Bools.{neither}
 use Rattle.st7789.specs.Data.{noRecord, onCurrent}
 use Rattle.st7789.specs.Refusals.{some, recordLong}
-use Rattle.st7789.proofs.Tests.{none-of-two}
 use Rattle.laws.proofs.Entries.{none-append, none-set, none-at}
 
 -- Every place of the trace has room for 14 bytes.
@@ -59,7 +59,7 @@ module _
   where
     last : (i : ℕ) → badHere (At i) n l p ≡ false → (i + 1 ≡ n) × (differ (getD l i noRecord .params) p ≡ false)
     last i e =
-        let t = none-of-two (not (eqb (i + 1) n)) (differ (getD l i noRecord .params) p) e in
+        let t = neither (not (eqb (i + 1) n)) (differ (getD l i noRecord .params) p) e in
         (eqb-true (i + 1) n (not-false (eqb (i + 1) n) (t .0)), t .1)
 
     here-short : (i : ℕ) → i < n → recordLong (getD l i noRecord) ≡ false

@@ -5,18 +5,13 @@ use mathlib.Core.Bool.{Bool, true, false, _&&_}
 use mathlib.Core.List.{List, [], _∷_}
 use lib.ListN.{set, replicate}
 use lib.Dec.{eqb}
-use Rattle.geometry.specs.declared.Window.{Window}
-use Rattle.geometry.specs.declared.Pointer.{Pointer}
 use Rattle.pixels.specs.declared.Carry.the-variants.{Empty}
-use Rattle.pixels.specs.declared.Span.{Span}
 use Rattle.pixels.specs.declared.Span.the-variants.{Rows}
 use Rattle.lists.specs.Params.{noParams}
 use Rattle.lists.specs.declared.Params.{Params}
-use Rattle.lists.specs.declared.TraceRecord.{TraceRecord}
 use Rattle.lists.specs.declared.Current.{Current}
 use Rattle.lists.specs.declared.Current.the-variants.{Nothing, At}
 use Rattle.chip.specs.declared.InForce.{InForce}
-use Rattle.chip.specs.declared.Chip.{Chip}
 use Rattle.st7789.specs.Parts.{withChip, withCounts, withDirty, withStored, withTrace, withWarnings}
 use Rattle.st7789.specs.Entries.{freshController}
 use Rattle.st7789.specs.Refusals.{transferRefusal}

@@ -4,7 +4,7 @@ use mathlib.Core.Bool.{Bool, true, false, not, _&&_}
 use mathlib.Core.List.{List, [], _∷_, _++_, foldl, map}
 use lib.ListN.{length, getD, take, replicate}
 use lib.Dec.{eqb}
-use Rattle.lists.specs.Params.{noParams, listed, sameNumbers}
+use Rattle.lists.specs.Params.{listed, sameNumbers}
 use Rattle.lists.specs.declared.Stored.{Stored}
 use Rattle.lists.specs.declared.Current.{Current}
 use Rattle.lists.specs.declared.Current.the-variants.{Nothing, At}

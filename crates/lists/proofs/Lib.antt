@@ -1,3 +1,4 @@
+pub mod Bools
 pub mod Fixed
 pub mod Filling
 pub mod Alike

@@ -2,7 +2,7 @@
 use Prim.Native.Nat.{ℕ}
 use mathlib.Core.Bool.{Bool, true, false, not, _&&_, _||_}
 use mathlib.Core.List.{List, [], _∷_}
-use lib.ListN.{take, replicate}
+use lib.ListN.{replicate}
 use lib.Dec.{eqb}
 use Rattle.lists.specs.Fixed.{Fixed, used, pushAll}
 use Rattle.lists.specs.declared.Params.{Params}

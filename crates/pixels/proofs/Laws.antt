@@ -1,20 +1,19 @@
 -- Running a ++ b is running a and then b: the walk, the stores, the count and the rows.
-use Prim.Native.Nat.{ℕ, zero, suc, _+_, _*_, _/_, _≤_, _<_}
-use mathlib.Core.Path.{_≡_, refl, sym, ap, ap₂, _∙_}
+use Prim.Native.Nat.{ℕ, _+_, _*_, _≤_}
+use mathlib.Core.Path.{_≡_, refl, ap}
 use mathlib.Core.Bool.{Bool, true, false, cond}
-use mathlib.Core.List.{List, [], _∷_, _++_, foldl, foldl-append, append-assoc}
+use mathlib.Core.List.{List, [], _∷_, _++_, foldl-append, append-assoc}
 use native.Mathlib.Nat.{add-zero, add-assoc}
 use native.Mathlib.Omega.{arith}
-use lib.ListN.{length, set, getD, length-append, length-set}
-use Rattle.geometry.specs.Place.{isInverted, outcome}
+use lib.ListN.{length, length-append}
+use Rattle.geometry.specs.Place.{isInverted}
 use Rattle.geometry.specs.declared.Window.{Window}
 use Rattle.geometry.specs.declared.Pointer.{Pointer}
 use Rattle.pixels.specs.declared.Carry.{Carry}
 use Rattle.pixels.specs.declared.Carry.the-variants.{Empty, High}
-use Rattle.pixels.specs.declared.Span.{Span}
 use Rattle.pixels.specs.declared.Walk.{Walk}
 use Rattle.pixels.specs.declared.Walked.{Walked}
-use Rattle.pixels.specs.Run.{pixelsOf, carryAfter, onward, counted, pointerAfter, Store, storeOf, storesOf, stores, written, mark, rowOf, marked, walkAfter, pixelsCounted, walkedOn}
+use Rattle.pixels.specs.Run.{pixelsOf, carryAfter, onward, counted, pointerAfter, storesOf, stores, written, walkAfter, pixelsCounted, walkedOn}
 
 -- bytes to pixels
 pixels-cut : (a b : List ℕ) (c : Carry) → pixelsOf c (a ++ b) ≡ pixelsOf c a ++ pixelsOf (carryAfter c a) b

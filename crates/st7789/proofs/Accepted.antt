@@ -1,7 +1,7 @@
 -- What an accepted call may rely on, and what accepted and refused calls leave.
 use Prim.Native.Nat.{ℕ, suc, _+_, _-_, _^_, _≤_, _<_}
 use mathlib.Core.Path.{_≡_, refl, sym, ap, _∙_}
-use mathlib.Core.Bool.{Bool, true, false, cond, not, _||_}
+use mathlib.Core.Bool.{Bool, true, false, cond, not}
 use mathlib.Core.List.{List, [], _++_, append-nil}
 use native.Mathlib.Omega.{arith}
 use borrow.Author.Fill.{fill-more}
@@ -9,13 +9,14 @@ use borrow.Author.Tests.{ltb-false, eqb-true, eq-eqb, ne-eqb}
 use lib.Dec.{eqb, ltb}
 use lib.ListN.{length, drop, set, replicate, length-set, drop-of-length-le}
 use Rattle.pixels.specs.Run.{written}
+use Rattle.lists.proofs.Bools.{neither}
 use Rattle.st7789.specs.Command.{begunAll, released}
 use Rattle.st7789.specs.Data.{dataIn, storesIn}
 use Rattle.st7789.specs.Refusals.{badState, pixelsHeld, high, countHigh, transferRefusal, bareRefusal, memoryRefusal}
 use Rattle.st7789.specs.Room.{Room}
 use Rattle.st7789.specs.Entries.{freshController, zeroed, unlessRefused, railReset, moved, allMarked}
 use Rattle.st7789.specs.declared.Controller.{Controller}
-use Rattle.st7789.proofs.Tests.{none-of-two, current-placed}
+use Rattle.st7789.proofs.Tests.{current-placed}
 
 -- No refusal: each of the four tests failed.
 not-zero : (k : ℕ) → suc k ≡ 0 → ⊥
@@ -37,10 +38,10 @@ unfolding transferRefusal countHigh
 room s cells n e =
     let t = none-refused (badState s) (not (eqb cells 76800)) (ltb 65536 n) (countHigh s) e in
     let h : n ≤ 65536 = ltb-false 65536 n (t .2) in
-    let e1 = none-of-two (high (s .counts .commands)) _ (t .3) in
-    let e2 = none-of-two (high (s .counts .«ramwr_count»)) _ (e1 .1) in
-    let e3 = none-of-two (high (s .counts .«pixels_written»)) _ (e2 .1) in
-    let e4 = none-of-two (high (s .counts .«dropped_params»)) _ (e3 .1) in
+    let e1 = neither (high (s .counts .commands)) _ (t .3) in
+    let e2 = neither (high (s .counts .«ramwr_count»)) _ (e1 .1) in
+    let e3 = neither (high (s .counts .«pixels_written»)) _ (e2 .1) in
+    let e4 = neither (high (s .counts .«dropped_params»)) _ (e3 .1) in
     record {
       commands = below (s .counts .commands) n (e1 .0) h;
       ramwrs = below (s .counts .«ramwr_count») n (e2 .0) h;

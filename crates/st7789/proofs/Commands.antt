@@ -1,16 +1,16 @@
 -- A command's begin, and the loop over a segment of commands.
-use Prim.Native.Nat.{ℕ, suc, _+_, _-_, _^_, _≤_, _<_}
-use mathlib.Core.Path.{_≡_, refl, sym, ap, _∙_}
+use Prim.Native.Nat.{ℕ, _+_, _-_, _^_, _≤_, _<_}
+use mathlib.Core.Path.{_≡_, refl, ap, _∙_}
 use mathlib.Core.Bool.{Bool, true, false, cond}
-use mathlib.Core.List.{List, [], _∷_, map, foldl}
+use mathlib.Core.List.{List, [], _∷_, map}
 use native.Mathlib.Numerals.{add-one}
 use native.Mathlib.Omega.{arith}
 use lib.Dec.{eqb}
 use lib.ListN.{length, getD, drop, drop-of-length-le}
 use lib.Seq.{drop-cons}
-use Rattle.lists.specs.Fixed.{Fixed, push, pushAll}
+use Rattle.lists.specs.Fixed.{Fixed, pushAll}
 use Rattle.lists.specs.declared.Warning.{Warning}
-use Rattle.timing.specs.Lint.{brokenBy, only, rulesOf}
+use Rattle.timing.specs.Lint.{brokenBy, rulesOf}
 use Rattle.timing.specs.declared.Broken.{Broken}
 use Rattle.st7789.specs.Parts.{warningsOf, withWarnings}
 use Rattle.st7789.specs.Command.{warning, linted, begun, begunAll}
@@ -56,7 +56,7 @@ pub record Turn (t : ℕ) (bytes : List ℕ) (s₀ s : Controller) (i : ℕ) : T
   pub ramwrs : s .counts .«ramwr_count» + (length bytes - i) < 2 ^ 64
   pub left : begunAll t (drop i bytes) s ≡ begunAll t bytes s₀
 
-one-more : (b : Bool) (n : ℕ) → cond b (n + 1) n ≤ n + 1
+pub one-more : (b : Bool) (n : ℕ) → cond b (n + 1) n ≤ n + 1
 one-more true n = omega arith
 one-more false n = omega arith
 

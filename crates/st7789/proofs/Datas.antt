@@ -1,6 +1,6 @@
 -- Data: the controller after it, put together from what the parts answer.
 use Prim.Native.Nat.{ℕ, _+_, _-_, _^_, _≤_, _<_}
-use mathlib.Core.Path.{_≡_, refl, sym, ap, ap₂, _∙_}
+use mathlib.Core.Path.{_≡_, sym, ap, ap₂, _∙_}
 use mathlib.Core.Bool.{Bool, true, false, cond}
 use mathlib.Core.List.{List, []}
 use native.Mathlib.Omega.{arith}
@@ -8,7 +8,7 @@ use lib.ListN.{length, set, getD}
 use lib.Seq.{set-out}
 use mir.Val.{Fits}
 use mir.Syntax.{w64}
-use Rattle.pixels.specs.Run.{stores, written, walkedOn, unwalked}
+use Rattle.pixels.specs.Run.{stores, written}
 use Rattle.pixels.specs.declared.Walked.{Walked}
 use Rattle.pixels.proofs.Laws.{counted-few}
 use Rattle.lists.specs.Params.{filled}

@@ -1,7 +1,7 @@
 -- The refusal tests, and what is known where none of them refuses.
-use Prim.Native.Nat.{ℕ, _+_, _^_, _≤_, _<_}
+use Prim.Native.Nat.{ℕ, _+_, _≤_}
 use mathlib.Core.Path.{_≡_, refl, sym, ap, _∙_}
-use mathlib.Core.Bool.{Bool, true, false, not, _||_, true≢false}
+use mathlib.Core.Bool.{Bool, true, false, _||_, true≢false}
 use mathlib.Core.List.{List}
 use native.Mathlib.Omega.{arith}
 use borrow.Author.Tests.{eq-eqb, ne-eqb, eqb-true, ltb-false, not-false}
@@ -12,6 +12,7 @@ use Rattle.lists.specs.Params.{differ}
 use Rattle.lists.specs.declared.TraceRecord.{TraceRecord}
 use Rattle.lists.specs.declared.Current.{Current}
 use Rattle.lists.specs.declared.Current.the-variants.{Nothing, At}
+use Rattle.lists.proofs.Bools.{neither}
 use Rattle.st7789.specs.Parts.{traceOf}
 use Rattle.st7789.specs.Data.{noRecord}
 use Rattle.st7789.specs.Refusals.{some, windowBad, pointerBad, tooLong, storedLong, recordLong, countBad, spanBad, currentBad, badState, pixelsHeld}
@@ -36,15 +37,11 @@ pub held-here :
 held-here k records i j n e ej en = en ∙ ap (λ j. getD records j noRecord .«pixel_bytes») ej ∙ ap (λ k. pixelsHeld k records) (sym e)
 
 -- BAD_STATE, clause by clause.
-pub none-of-two : (a b : Bool) → a || b ≡ false → (a ≡ false) × (b ≡ false)
-none-of-two true b e = absurd (true≢false e)
-none-of-two false b e = (refl, e)
-
 pub none-of-four : (a b c d : Bool) → a || (b || (c || d)) ≡ false → (a ≡ false) × (b ≡ false) × (c ≡ false) × (d ≡ false)
 none-of-four a b c d e =
-    let e1 = none-of-two a (b || (c || d)) e in
-    let e2 = none-of-two b (c || d) (e1 .1) in
-    let e3 = none-of-two c d (e2 .1) in
+    let e1 = neither a (b || (c || d)) e in
+    let e2 = neither b (c || d) (e1 .1) in
+    let e3 = neither c d (e2 .1) in
     (e1 .0, e2 .0, e3 .0, e3 .1)
 
 one-of-four : (a b c d rest : Bool) → a || (b || (c || d)) ≡ true → true ≡ a || (b || (c || (d || rest)))
@@ -73,14 +70,14 @@ pub record Fine (s : Controller) : Type 0 where
 pub fine : (s : Controller) → badState s ≡ false → Fine s
 unfolding badState
 fine s e =
-    let e1 = none-of-two _ _ e in
-    let e2 = none-of-two _ _ (e1 .1) in
-    let e3 = none-of-two _ _ (e2 .1) in
-    let e4 = none-of-two _ _ (e3 .1) in
-    let e5 = none-of-two _ _ (e4 .1) in
-    let e6 = none-of-two _ _ (e5 .1) in
-    let e7 = none-of-two _ _ (e6 .1) in
-    let e8 = none-of-two _ _ (e7 .1) in
+    let e1 = neither _ _ e in
+    let e2 = neither _ _ (e1 .1) in
+    let e3 = neither _ _ (e2 .1) in
+    let e4 = neither _ _ (e3 .1) in
+    let e5 = neither _ _ (e4 .1) in
+    let e6 = neither _ _ (e5 .1) in
+    let e7 = neither _ _ (e6 .1) in
+    let e8 = neither _ _ (e7 .1) in
     record {
       window = e1 .0;
       pointer = e2 .0;
@@ -120,17 +117,17 @@ module _
       unfolding badState
       bad-late r d k n er ed ek =
           let f = none-of-four w p (tooLong (s .chip .decoder .params)) l e in
-          let g = none-of-two (countBad (s .logs .traced)) (countBad (s .logs .warned)) n in
+          let g = neither (countBad (s .logs .traced)) (countBad (s .logs .warned)) n in
           rw (← ew, ← ep, ← el, f .0, f .1, f .2, f .3, g .0, g .1, er, ed, ek)
 
 pub counts-within : (s : Controller) → countBad (s .logs .traced) || countBad (s .logs .warned) ≡ false → s .logs .traced ≤ 128
-counts-within s e = ltb-false 128 (s .logs .traced) (none-of-two _ _ e .0)
+counts-within s e = ltb-false 128 (s .logs .traced) (neither _ _ e .0)
 
 -- In a state that is not bad the current record is a place of the list.
 placed : (s : Controller) (k : Current) → s .logs .traced ≤ 128 → currentBad k s ≡ false → Placed k
 placed s Nothing h e = tt
 placed s (At i) h e =
-    let g : i + 1 ≡ s .logs .traced = eqb-true (i + 1) (s .logs .traced) (not-false (eqb (i + 1) (s .logs .traced)) (none-of-two _ _ e .0)) in
+    let g : i + 1 ≡ s .logs .traced = eqb-true (i + 1) (s .logs .traced) (not-false (eqb (i + 1) (s .logs .traced)) (neither _ _ e .0)) in
     omega arith
 
 pub current-placed : (s : Controller) → badState s ≡ false → Placed (s .logs .current)

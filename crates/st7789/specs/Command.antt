@@ -7,7 +7,6 @@ use Rattle.lists.specs.Fixed.{push, pushAll}
 use Rattle.lists.specs.Params.{noParams}
 use Rattle.lists.specs.declared.TraceRecord.{TraceRecord}
 use Rattle.lists.specs.declared.Warning.{Warning}
-use Rattle.lists.specs.declared.Current.{Current}
 use Rattle.lists.specs.declared.Current.the-variants.{Nothing, At}
 use Rattle.timing.specs.Lint.{brokenBy, rulesOf}
 use Rattle.chip.specs.Begin.{chipBegun, chipReleased}

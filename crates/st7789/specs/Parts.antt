@@ -1,5 +1,4 @@
 -- The controller's lists as fixed lists, and the controller with one part changed.
-use Prim.Native.Nat.{ℕ}
 use mathlib.Core.List.{List}
 use Rattle.pixels.specs.declared.Span.{Span}
 use Rattle.lists.specs.Fixed.{Fixed}

@@ -1,8 +1,8 @@
 -- Document 01's table of refusals: their numbers, and when each is given.
 use Prim.Native.Nat.{ℕ, _+_, _^_}
-use mathlib.Core.Bool.{Bool, true, false, cond, not, _&&_, _||_}
+use mathlib.Core.Bool.{Bool, false, cond, not, _&&_, _||_}
 use mathlib.Core.List.{List, [], _∷_}
-use lib.ListN.{take, getD}
+use lib.ListN.{getD}
 use lib.Dec.{ltb, eqb}
 use Rattle.geometry.specs.declared.Window.{Window}
 use Rattle.geometry.specs.declared.Pointer.{Pointer}
@@ -19,7 +19,6 @@ use Rattle.st7789.specs.Parts.{traceOf}
 use Rattle.st7789.specs.Data.{noRecord}
 use Rattle.st7789.specs.declared.Status.{Status}
 use Rattle.st7789.specs.declared.Status.the-variants.{Ok, BadState, BadMemory, BadFrame, TooLong, CountHigh, LogLong, BadLog}
-use Rattle.st7789.specs.declared.Counts.{Counts}
 use Rattle.st7789.specs.declared.Controller.{Controller}
 
 -- "No. | Name"

@@ -1,13 +1,12 @@
 // The refusal tests, in 01's order.
 ghost use mathlib.Core.Path.{_≡_};
-ghost use mathlib.Core.Bool.{_||_};
 ghost use Prim.Native.Nat.{_≤_, _<_};
 ghost use lib.ListN.{getD};
 ghost use Rattle.lists.specs.Fixed.{used};
 ghost use Rattle.lists.specs.declared.Current.the-variants.{At};
 ghost use Rattle.st7789.specs.Data.{noRecord};
 ghost use Rattle.st7789.specs.Parts.{traceOf};
-ghost use Rattle.st7789.specs.Refusals.{number, some, windowBad, pointerBad, storedLong, countBad, recordLong, spanBad, currentBad, badState, pixelsHeld, countHigh, transferRefusal, memoryRefusal};
+ghost use Rattle.st7789.specs.Refusals.{number, some, windowBad, pointerBad, storedLong, recordLong, spanBad, currentBad, badState, pixelsHeld, countHigh, transferRefusal};
 ghost use Rattle.st7789.specs.Room.{Placed};
 use crate::Controller;
 use crate::Status;

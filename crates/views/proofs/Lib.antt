@@ -1,0 +1,4 @@
+pub mod Dimming
+pub mod Filling
+pub mod Rows
+pub mod Examples

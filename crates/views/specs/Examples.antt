@@ -1,0 +1,28 @@
+-- Document 01's P11 and its edges, as rows of one table: a pixel, a brightness pair, and the pixel dimmed.
+use Prim.Native.Nat.{ℕ, _-_, _^_}
+use mathlib.Core.Bool.{Bool, true, _&&_}
+use mathlib.Core.List.{List, [], _∷_}
+use lib.Dec.{eqb}
+use Rattle.views.specs.Light.{dimmed}
+
+pub record Row : Type 0 where
+  pub pixel : ℕ
+  pub level : ℕ
+  pub scale : ℕ
+  pub seen : ℕ
+
+abbrev pub allSeen : List Row → Bool
+allSeen [] = true
+allSeen (r ∷ rs) = eqb (dimmed (r .pixel) (r .level) (r .scale)) (r .seen) && allSeen rs
+
+unfoldable pub rows : List Row
+rows =
+    -- P11: FFFF dimmed 1/2: 7BEF; 2/1: FFFE
+    record { pixel = 0xFFFF; level = 1; scale = 2; seen = 0x7BEF }
+    ∷ record { pixel = 0xFFFF; level = 2; scale = 1; seen = 0xFFFE }
+    -- level 0, scale 0, full brightness, the largest pair
+    ∷ record { pixel = 0xFFFF; level = 0; scale = 1; seen = 0 }
+    ∷ record { pixel = 0xFFFF; level = 1; scale = 0; seen = 0 }
+    ∷ record { pixel = 0xA5C3; level = 1024; scale = 1024; seen = 0xA5C3 }
+    ∷ record { pixel = 0xFFFF; level = 2 ^ 32 - 1; scale = 1; seen = 0xFFFF }
+    ∷ []

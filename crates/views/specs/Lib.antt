@@ -1,0 +1,3 @@
+pub mod Light
+pub mod Views
+pub mod Examples

@@ -1,0 +1,207 @@
+// What a reviewer sees: memory as it is, the glass, and the glass as the backlight lets it be seen.
+ghost use mathlib.Core.Path.{_≡_};
+ghost use mathlib.Core.Bool.{Bool·beq};
+ghost use mathlib.Core.List.{map};
+ghost use Prim.Native.Nat.{_-_, _*_, _/_, _%_, _^_, _≤_, _<_, min};
+ghost use lib.ListN.{length};
+ghost use Rattle.st7789.specs.Refusals.{number, memoryRefusal};
+ghost use Rattle.views.specs.Light.{scaled, dimmed, lightOf, glassOf, viewed};
+ghost use Rattle.views.specs.Views.{pixelSeen, frameRefusal, frameSeen, rowSeen};
+use st7789::Controller;
+use st7789::Status;
+
+const PANEL_PIXELS: usize = 76800;
+
+pub enum FrameView {
+    Raw,
+    Glass,
+    Perceived,
+}
+
+// Which of two lent memories a row is taken from.
+pub enum Memory {
+    Panel,
+    Frame,
+}
+
+// What a view goes by.
+pub struct Light {
+    pub lit: bool,
+    pub plain: bool,
+    pub level: u32,
+    pub scale: u32,
+}
+
+pub struct Seen {
+    pub pixel: u16,
+    pub status: Status,
+}
+
+fn wide32(x: u32) -> u64
+    ensures { λ r. ⌜ (r ≡ x) × (r < 2 ^ 32) ⌝ }
+{
+    x as u64
+}
+
+fn wide16(x: u16) -> u64
+    ensures { λ r. ⌜ (r ≡ x) × (r < 2 ^ 16) ⌝ }
+{
+    x as u64
+}
+
+// A channel scaled by level over scale, rounding down.
+fn scale_value(channel: u64, level: u32, scale: u32) -> u64
+    requires { ⌜ channel < 64 ⌝ }
+    ensures { λ r. ⌜ (r ≡ scaled channel level scale) × (r < 2 ^ 32) ⌝ }
+{
+    if scale == 0 {
+        return 0;
+    }
+    let value = channel * wide32(level) / wide32(scale);
+    if value < 4_294_967_295 {
+        return value;
+    }
+    4_294_967_295
+}
+
+// The low 16 bits of a channel, times a power of two, within 16 bits.
+fn shift(channel: u64, times: u64) -> u16
+    requires { ⌜ times ≤ 2048 ⌝ }
+    ensures { λ r. ⌜ r ≡ channel % 65536 * times % 65536 ⌝ }
+{
+    (channel % 65536 * times % 65536) as u16
+}
+
+// One pixel dimmed by a brightness pair, channel by channel. Every pair is taken.
+pub fn dim(pixel: u16, level: u32, scale: u32) -> u16
+    ensures answer { λ r. ⌜ r ≡ dimmed pixel level scale ⌝ }
+{
+    if level == 0 {
+        return 0;
+    }
+    let all = wide16(pixel);
+    let red = scale_value(all / 2048, level, scale);
+    let green = scale_value(all / 32 % 64, level, scale);
+    let blue = scale_value(all % 32, level, scale);
+    (shift(red, 2048) | shift(green, 32)) | shift(blue, 1)
+}
+
+fn same(a: bool, b: bool) -> bool
+    ensures { λ r. ⌜ r ≡ Bool·beq a b ⌝ }
+{
+    if a { b } else { !b }
+}
+
+fn light_of(controller: Controller) -> Light
+    ensures { λ r. ⌜ r ≡ lightOf controller ⌝ }
+{
+    let power = controller.power;
+    let chip = controller.chip;
+    let registers = chip.registers;
+    let cfg = controller.cfg;
+    let plain = same(registers.inverted, cfg.invon_shows_ram);
+    Light {
+        lit: power.powered & (!registers.sleeping & registers.display_on),
+        plain,
+        level: power.level,
+        scale: power.scale,
+    }
+}
+
+// The glass: black unless lit, otherwise memory or its complement.
+fn glass_pixel(light: Light, raw: u16) -> u16
+    ensures { λ r. ⌜ r ≡ glassOf light raw ⌝ }
+{
+    if light.lit {
+        if light.plain {
+            return raw;
+        }
+        return 65535 - raw;
+    }
+    0
+}
+
+fn view_pixel(view: FrameView, light: Light, raw: u16) -> u16
+    ensures { λ r. ⌜ r ≡ viewed view light raw ⌝ }
+{
+    match view {
+        FrameView::Raw => raw,
+        FrameView::Glass => glass_pixel(light, raw),
+        FrameView::Perceived => dim(glass_pixel(light, raw), light.level, light.scale),
+    }
+}
+
+// One pixel of a view; outside the panel it is 0.
+pub fn pixel(controller: Controller, view: FrameView, x: u16, y: u16, memory: &[u16]) -> Seen
+    ensures refusal { λ r. ⌜ number (r .status) ≡ memoryRefusal (length (now (memory .entry))) ⌝ }
+    ensures answer { λ r. ⌜ r .pixel ≡ pixelSeen view controller x y (now (memory .entry)) ⌝ }
+{
+    if memory.len() != PANEL_PIXELS {
+        return Seen {
+            pixel: 0,
+            status: Status::BadMemory,
+        };
+    }
+    if x < 240 {
+        if y < 320 {
+            let light = light_of(controller);
+            let at = (y as usize) * 240 + (x as usize);
+            let seen = view_pixel(view, light, memory[at]);
+            return Seen {
+                pixel: seen,
+                status: Status::Ok,
+            };
+        }
+    }
+    Seen {
+        pixel: 0,
+        status: Status::Ok,
+    }
+}
+
+fn fill(view: FrameView, light: Light, memory: &[u16], buffer: &mut [u16])
+    requires { ⌜ length (now buffer) ≡ length (now memory) ⌝ }
+    ensures { λ r. ⌜ now (buffer .exit) ≡ map (viewed view light) (now (memory .entry)) ⌝ }
+{
+    let mut i = 0;
+    while i < memory.len() {
+        buffer[i] = view_pixel(view, light, memory[i]);
+        i += 1;
+    }
+}
+
+// A whole view into a lent buffer, row by row.
+pub fn frame(controller: Controller, view: FrameView, memory: &[u16], buffer: &mut [u16]) -> Status
+    ensures refusal { λ r. ⌜ number r ≡ frameRefusal (length (now (memory .entry))) (length (now (buffer .entry))) ⌝ }
+    ensures lent { λ r. ⌜ now (buffer .exit) ≡ frameSeen view controller (now (memory .entry)) (now (buffer .entry)) ⌝ }
+{
+    if memory.len() != PANEL_PIXELS {
+        return Status::BadMemory;
+    }
+    if buffer.len() != PANEL_PIXELS {
+        return Status::BadFrame;
+    }
+    fill(view, light_of(controller), memory, buffer);
+    Status::Ok
+}
+
+// A row of the panel or of the frame, lent out of that memory; an empty part where there is none.
+pub fn row<'a>(memory: Memory, row: usize, panel: &'a [u16], frame: &'a [u16]) -> &'a [u16]
+    ensures answer { λ r. ⌜ now r ≡ rowSeen memory row (now (panel .entry)) (now (frame .entry)) ⌝ }
+{
+    if panel.len() != PANEL_PIXELS {
+        return &panel[0..0];
+    }
+    if frame.len() != PANEL_PIXELS {
+        return &panel[0..0];
+    }
+    if row >= 320 {
+        return &panel[0..0];
+    }
+    let start = row * 240;
+    let end = start + 240;
+    match memory {
+        Memory::Panel => &panel[start..end],
+        Memory::Frame => &frame[start..end],
+    }
+}

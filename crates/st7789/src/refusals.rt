@@ -103,8 +103,9 @@ impl Controller {
         }
     }
 
-    pub(crate) fn bad_state(self) -> bool
-        ensures { λ r. ⌜ r ≡ badState self ⌝ }
+    // BAD_STATE: whether the state is one that no transfer and no publishing takes.
+    pub fn bad_state(self) -> bool
+        ensures answer { λ r. ⌜ r ≡ badState self ⌝ }
     {
         let chip = self.chip;
         let window = chip.window;

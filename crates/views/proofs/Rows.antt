@@ -1,12 +1,11 @@
 -- The ways out of `row`.
 use Prim.Native.Nat.{ℕ, _+_, _-_, _*_, _≤_, _<_}
-use mathlib.Core.Path.{_≡_, refl, sym, ap, _∙_}
-use mathlib.Core.Bool.{Bool, true, false, cond, not, _&&_}
+use mathlib.Core.Path.{_≡_}
 use mathlib.Core.List.{List, []}
 use native.Mathlib.Omega.{arith}
 use borrow.Author.Tests.{eq-eqb, ne-eqb, lt-ltb, le-ltb}
 use lib.ListN.{length, take, drop}
-use Rattle.views.specs.Views.{picked, rowRefused, rowSeen}
+use Rattle.views.specs.Views.{picked, rowSeen}
 use Rattle.views.specs.declared.Memory.{Memory}
 
 module _ (memory : Memory) (row : ℕ) (panel frame : List ℕ) where

@@ -1,6 +1,6 @@
 -- Document 01, "Fresh panel, views, publishing": what a pixel of memory looks like, dimmed or not.
 use Prim.Native.Nat.{ℕ, _-_, _*_, _/_, _%_, _^_, min}
-use mathlib.Core.Bool.{Bool, cond, not, _&&_, Bool·beq}
+use mathlib.Core.Bool.{cond, not, _&&_, Bool·beq}
 use lib.Bits.{bitOr}
 use lib.Dec.{eqb}
 use Rattle.st7789.specs.declared.Controller.{Controller}

@@ -2,7 +2,7 @@
 ghost use mathlib.Core.Path.{_≡_};
 ghost use mathlib.Core.Bool.{Bool·beq};
 ghost use mathlib.Core.List.{map};
-ghost use Prim.Native.Nat.{_-_, _*_, _/_, _%_, _^_, _≤_, _<_, min};
+ghost use Prim.Native.Nat.{_-_, _*_, _/_, _%_, _^_, _≤_, _<_};
 ghost use lib.ListN.{length};
 ghost use Rattle.st7789.specs.Refusals.{number, memoryRefusal};
 ghost use Rattle.views.specs.Light.{scaled, dimmed, lightOf, glassOf, viewed};

@@ -1,0 +1,92 @@
+-- What a publish does to each pixel of the frame, and to the controller.
+use Prim.Native.Nat.{ℕ, _+_, _-_, _*_, _/_, _%_, _≤_, _<_}
+use mathlib.Core.Path.{_≡_, refl, sym, ap, _∙_}
+use mathlib.Core.Bool.{Bool, true, false, cond, _&&_}
+use mathlib.Core.List.{List, _++_}
+use native.Mathlib.Omega.{arith}
+use borrow.Author.Tests.{leb-true, leb-false}
+use lib.Dec.{leb, eqb}
+use lib.ListN.{length, getD, take, drop, length-append, length-take, length-drop}
+use lib.Seq.{ext-getD}
+use Rattle.pixels.specs.declared.Span.{Span}
+use Rattle.pixels.specs.declared.Span.the-variants.{Nothing, Rows}
+use Rattle.st7789.specs.Parts.{withDirty}
+use Rattle.st7789.specs.Refusals.{spanBad}
+use Rattle.st7789.specs.declared.Controller.{Controller}
+use Rattle.publishing.specs.Publish.{copied, spanCopied, inSpan, published}
+use Rattle.publishing.proofs.Copies.{upTo, before, between, after}
+use Rattle.publishing.proofs.Refusing.{span-rows}
+
+module _ (memory frame : List ℕ) (m : length memory ≡ 76800) (f : length frame ≡ 76800) where
+  copied-upTo : (first last : ℕ) → first ≤ last → copied first last memory frame ≡ upTo (first * 240) ((last + 1 - first) * 240) memory frame
+  copied-upTo first last h =
+      let e : (last + 1) * 240 ≡ first * 240 + (last + 1 - first) * 240 = omega arith in
+      ap (λ k. take (first * 240) frame ++ (take ((last + 1 - first) * 240) (drop (first * 240) memory) ++ drop k frame)) e
+
+  -- A row of first to last is memory's, any other the frame's own.
+  module _ (first last : ℕ) (up : first ≤ last) (inside : last < 320) (row column : ℕ) (h : column < 240) where
+    room : first * 240 + (last + 1 - first) * 240 ≤ 76800
+    room = omega (arith, up, inside)
+
+    by-tests :
+        (a b : Bool) → leb first row ≡ a → leb row last ≡ b →
+        getD (upTo (first * 240) ((last + 1 - first) * 240) memory frame) (row * 240 + column) 0 ≡
+        cond (a && b) (getD memory (row * 240 + column) 0) (getD frame (row * 240 + column) 0)
+    by-tests true true p q =
+        between (first * 240) ((last + 1 - first) * 240) memory frame m f room (row * 240 + column) (omega (arith, leb-true first row p, h))
+        (omega (arith, leb-true row last q, up, h))
+    by-tests true false p q =
+        after (first * 240) ((last + 1 - first) * 240) memory frame m f room (row * 240 + column) (omega (arith, leb-false row last q, up))
+    by-tests false b p q =
+        before (first * 240) ((last + 1 - first) * 240) memory frame m f room (row * 240 + column) (omega (arith, leb-false first row p, h))
+
+    row-copied :
+        getD (copied first last memory frame) (row * 240 + column) 0 ≡
+        cond (inSpan row (Rows first last)) (getD memory (row * 240 + column) 0) (getD frame (row * 240 + column) 0)
+    row-copied = ap (λ l. getD l (row * 240 + column) 0) (copied-upTo first last up) ∙ by-tests (leb first row) (leb row last) refl refl
+
+  length-spanned : (span : Span) → spanBad span ≡ false → length (spanCopied span memory frame) ≡ 76800
+  length-spanned Nothing b = f
+  length-spanned (Rows first last) b =
+      let t = span-rows {span = Rows first last} {first = first} {last = last} refl refl refl b in
+      simp (length-append, length-take, length-drop) (omega (arith, t .0, t .1, m, f))
+
+  -- After publishing, a row in the span is memory's and any other is as before.
+  pub row-published :
+      (span : Span) → spanBad span ≡ false → (row column : ℕ) → column < 240 →
+      getD (spanCopied span memory frame) (row * 240 + column) 0 ≡
+      cond (inSpan row span) (getD memory (row * 240 + column) 0) (getD frame (row * 240 + column) 0)
+  row-published Nothing b row column h = refl
+  row-published (Rows first last) b row column h =
+      let t = span-rows {span = Rows first last} {first = first} {last = last} refl refl refl b in
+      row-copied first last (t .0) (t .1) row column h
+
+  module _ (span : Span) (fine : spanBad span ≡ false) where
+    abbrev Alike : Type 0
+    Alike = (row column : ℕ) → column < 240 → inSpan row span ≡ false → getD frame (row * 240 + column) 0 ≡ getD memory (row * 240 + column) 0
+
+    picked : (b : Bool) (v w : ℕ) → (b ≡ false → w ≡ v) → cond b v w ≡ v
+    picked true v w h = refl
+    picked false v w h = h refl
+
+    pixel-alike : Alike → (i : ℕ) → getD (spanCopied span memory frame) i 0 ≡ getD memory i 0
+    pixel-alike same i =
+        let e : i / 240 * 240 + i % 240 ≡ i = omega arith in
+        let h : i % 240 < 240 = omega arith in
+        sym (ap (λ k. getD (spanCopied span memory frame) k 0) e)
+        ∙ row-published span fine (i / 240) (i % 240) h
+        ∙ picked (inSpan (i / 240) span) (getD memory (i / 240 * 240 + i % 240) 0) (getD frame (i / 240 * 240 + i % 240) 0) (same (i / 240) (i % 240) h)
+        ∙ ap (λ k. getD memory k 0) e
+
+    -- Where the rows that differ lie in the span, the frame is memory afterwards.
+    pub frame-is-memory : Alike → spanCopied span memory frame ≡ memory
+    frame-is-memory same = ext-getD 0 (spanCopied span memory frame) memory (length-spanned span fine ∙ sym m) (λ i _. pixel-alike same i)
+
+-- A publish changes nothing of the controller but the span.
+kept-or-emptied : (b : Bool) (s : Controller) → withDirty (s .marks .dirty) (cond b (withDirty Nothing s) s) ≡ s
+kept-or-emptied true s = refl
+kept-or-emptied false s = refl
+
+pub span-only : (refusal : ℕ) (s : Controller) → withDirty (s .marks .dirty) (published refusal s) ≡ s
+unfolding published
+span-only refusal s = kept-or-emptied (eqb refusal 0) s

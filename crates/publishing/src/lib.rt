@@ -1,0 +1,144 @@
+// Publishing: the rows of the span copied to the frame, one row at a time, and the flags beside them.
+ghost use mathlib.Core.Path.{_≡_};
+ghost use Prim.Native.Nat.{_+_, _*_, _≤_, _<_};
+ghost use lib.ListN.{length};
+ghost use mathlib.Core.Bool.{false};
+ghost use Rattle.pixels.specs.declared.Span.the-variants.{Nothing};
+ghost use Rattle.st7789.specs.Refusals.{number, spanBad};
+ghost use Rattle.publishing.specs.Publish.{copied, spanCopied, publishRefusal, flagsOf, noFlags, publishedSpan, publishedFlags, published, publishedFrame};
+use pixels::Span;
+use st7789::Controller;
+use st7789::Marks;
+use st7789::Status;
+
+const PANEL_PIXELS: usize = 76800;
+
+// The panel's flags as they go with the frame.
+pub struct Flags {
+    pub powered: bool,
+    pub sleeping: bool,
+    pub inverted: bool,
+    pub display_on: bool,
+    pub invon_shows_ram: bool,
+    pub duty: u16,
+}
+
+pub struct Published {
+    pub controller: Controller,
+    pub span: Span,
+    pub flags: Flags,
+    pub status: Status,
+}
+
+fn wide(row: u16) -> usize
+    ensures { λ r. ⌜ r ≡ row ⌝ }
+{
+    row as usize
+}
+
+fn copy_row(from: &[u16], to: &mut [u16])
+    requires { ⌜ length (now to) ≡ length (now from) ⌝ }
+    ensures { λ r. ⌜ now (to .exit) ≡ now (from .entry) ⌝ }
+{
+    let mut i = 0;
+    while i < from.len() {
+        to[i] = from[i];
+        i += 1;
+    }
+}
+
+fn copy_rows(first: usize, last: usize, memory: &[u16], frame: &mut [u16])
+    requires { ⌜ (first ≤ last) × (last < 320) ⌝ }
+    requires { ⌜ (length (now memory) ≡ 76800) × (length (now frame) ≡ 76800) ⌝ }
+    ensures { λ r. ⌜ now (frame .exit) ≡ copied first last (now (memory .entry)) (now (frame .entry)) ⌝ }
+{
+    let mut row = first;
+    while row <= last {
+        let start = row * 240;
+        let end = start + 240;
+        copy_row(&memory[start..end], &mut frame[start..end]);
+        row += 1;
+    }
+}
+
+fn copy_span(span: Span, memory: &[u16], frame: &mut [u16])
+    requires { ⌜ spanBad span ≡ false ⌝ }
+    requires { ⌜ (length (now memory) ≡ 76800) × (length (now frame) ≡ 76800) ⌝ }
+    ensures { λ r. ⌜ now (frame .exit) ≡ spanCopied span (now (memory .entry)) (now (frame .entry)) ⌝ }
+{
+    match span {
+        Span::Nothing => {}
+        Span::Rows(first, last) => copy_rows(wide(first), wide(last), memory, frame),
+    }
+}
+
+fn flags_of(controller: Controller) -> Flags
+    ensures { λ r. ⌜ r ≡ flagsOf controller ⌝ }
+{
+    let power = controller.power;
+    let chip = controller.chip;
+    let registers = chip.registers;
+    let cfg = controller.cfg;
+    Flags {
+        powered: power.powered,
+        sleeping: registers.sleeping,
+        inverted: registers.inverted,
+        display_on: registers.display_on,
+        invon_shows_ram: cfg.invon_shows_ram,
+        duty: power.duty,
+    }
+}
+
+// A refusal hands the controller back, with no span and no flag.
+fn refused(controller: Controller, status: Status) -> Published
+    ensures { λ r. ⌜ r ≡ record { controller = controller; span = Nothing; flags = noFlags; status = status } ⌝ }
+{
+    let flags = Flags {
+        powered: false,
+        sleeping: false,
+        inverted: false,
+        display_on: false,
+        invon_shows_ram: false,
+        duty: 0,
+    };
+    Published {
+        controller,
+        span: Span::Nothing,
+        flags,
+        status,
+    }
+}
+
+// Copies the rows of the span to the frame, answers span and flags, and empties the span. Memory is only read.
+pub fn publish(controller: Controller, memory: &[u16], frame: &mut [u16]) -> Published
+    ensures refusal { λ r. ⌜ number (r .status) ≡ publishRefusal controller (length (now (memory .entry))) (length (now (frame .entry))) ⌝ }
+    ensures answer { λ r. ⌜ r .controller ≡ published (publishRefusal controller (length (now (memory .entry))) (length (now (frame .entry)))) controller ⌝ }
+    ensures span { λ r. ⌜ r .span ≡ publishedSpan (publishRefusal controller (length (now (memory .entry))) (length (now (frame .entry)))) controller ⌝ }
+    ensures flags { λ r. ⌜ r .flags ≡ publishedFlags (publishRefusal controller (length (now (memory .entry))) (length (now (frame .entry)))) controller ⌝ }
+    ensures lent { λ r. ⌜ now (frame .exit) ≡ publishedFrame (publishRefusal controller (length (now (memory .entry))) (length (now (frame .entry)))) controller (now (memory .entry)) (now (frame .entry)) ⌝ }
+{
+    if controller.bad_state() {
+        return refused(controller, Status::BadState);
+    }
+    if memory.len() != PANEL_PIXELS {
+        return refused(controller, Status::BadMemory);
+    }
+    if frame.len() != PANEL_PIXELS {
+        return refused(controller, Status::BadFrame);
+    }
+    let marks = controller.marks;
+    let span = marks.dirty;
+    copy_span(span, memory, frame);
+    let flags = flags_of(controller);
+    let mut after = controller;
+    let clean = Marks {
+        dirty: Span::Nothing,
+    };
+    after.marks = clean;
+    Published {
+        controller: after,
+        span,
+        flags,
+        status: Status::Ok,
+    }
+}

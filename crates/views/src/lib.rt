@@ -170,7 +170,7 @@ fn fill(view: FrameView, light: Light, memory: &[u16], buffer: &mut [u16])
     }
 }
 
-// A whole view into a lent buffer, row by row.
+// A whole view into a lent buffer, in the order of memory.
 pub fn frame(controller: Controller, view: FrameView, memory: &[u16], buffer: &mut [u16]) -> Status
     ensures refusal { λ r. ⌜ number r ≡ frameRefusal (length (now (memory .entry))) (length (now (buffer .entry))) ⌝ }
     ensures lent { λ r. ⌜ now (buffer .exit) ≡ frameSeen view controller (now (memory .entry)) (now (buffer .entry)) ⌝ }

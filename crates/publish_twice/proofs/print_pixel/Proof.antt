@@ -3,23 +3,18 @@ use borrow.Author.Needs.{needs}
 use Rattle.publish_twice.proofs.print_pixel.Statement.{statement}
 use Rattle.publish_twice.proofs.print_pixel.Tie as tie
 
--- src/main.rt:26:38
 shared-slice-read-print-hex : tie.Need-shared-slice-read-print-hex
 shared-slice-read-print-hex c = search needs
 
--- src/main.rt:26:38
 cast-print-hex : tie.Need-cast-print-hex
 cast-print-hex c = omega (arith, c .shared-slice-known2 .given 5)
 
--- src/main.rt:26:9
 print-hex-requires : tie.Need-print-hex-requires
 print-hex-requires c κs = search needs
 
--- src/main.rt:24:1
 returns : tie.Need-returns
 returns c = search needs
 
--- src/main.rt:24:1
 returns-2 : tie.Need-returns-2
 returns-2 c = search needs
 

@@ -5,7 +5,8 @@ use mathlib.Core.Bool.{Bool}
 use mathlib.Core.List.{List}
 use lib.ListN.{length}
 use Rattle.st7789.specs.Refusals.{transferRefusal, bareRefusal}
-use Rattle.st7789.specs.Entries.{unlessRefused, moved, transferred, bareTransferred}
+use Rattle.st7789.specs.Entries.{moved, transferred, bareTransferred}
+use Rattle.status.specs.Numbers.{unlessRefused}
 use Rattle.st7789.specs.declared.Controller.{Controller}
 use Rattle.st7789.proofs.Accepted.{bare}
 

@@ -16,10 +16,11 @@ use Rattle.lists.specs.declared.Current.the-variants.{Nothing, At}
 use Rattle.chip.specs.declared.InForce.{InForce}
 use Rattle.chip.specs.declared.InForce.the-variants.{Code}
 use Rattle.lists.proofs.Bools.{neither}
+use Rattle.status.specs.Tests.{high}
 use Rattle.st7789.specs.Parts.{traceOf}
 use Rattle.st7789.specs.Command.{begunRecord, begun, begunAll, released}
 use Rattle.st7789.specs.Data.{noRecord, onCurrent, morePixels, moreParams, ran, taken, dataFor, dataIn}
-use Rattle.st7789.specs.Refusals.{high, pixelsHeld, countHigh, badState, transferRefusal}
+use Rattle.st7789.specs.Refusals.{pixelsHeld, countHigh, badState, transferRefusal}
 use Rattle.st7789.specs.Room.{Placed}
 use Rattle.st7789.specs.Entries.{moved}
 use Rattle.st7789.specs.declared.Controller.{Controller}

@@ -6,7 +6,7 @@ use mathlib.Core.List.{List, [], _∷_, _++_}
 use native.Mathlib.Nat.{not-suc-le-zero, le-of-suc-le-suc}
 use lib.ListN.{length, getD, set}
 use Rattle.lists.proofs.Bools.{neither}
-use Rattle.st7789.specs.Refusals.{some}
+use Rattle.lists.specs.Entries.{some}
 
 module _ {A : Type 0} (test : A → Bool) where
   pub none-append : (l m : List A) → some test l ≡ false → some test m ≡ false → some test (l ++ m) ≡ false

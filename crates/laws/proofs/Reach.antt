@@ -10,14 +10,18 @@ use Rattle.lists.specs.declared.TraceRecord.{TraceRecord}
 use Rattle.lists.specs.declared.Warning.{Warning}
 use Rattle.lists.specs.Params.{noParams}
 use Rattle.chip.specs.Begin.{freshChip}
+use Rattle.status.specs.Tests.{memoryRefusal}
+use Rattle.pixels.specs.Spans.{spanBad, allRows}
+use Rattle.board.specs.Board.{isBoardRail}
 use Rattle.st7789.specs.Parts.{whole}
 use Rattle.st7789.specs.Data.{noRecord}
-use Rattle.st7789.specs.Refusals.{transferRefusal, bareRefusal, memoryRefusal, spanBad, countBad, badState}
-use Rattle.st7789.specs.Entries.{freshController, unlessRefused, allRows, isBoardRail, railReset, moved, transferred, bareTransferred, resetState, poweredSet, showsSet, brightnessSet, allMarked, warningsTaken}
+use Rattle.st7789.specs.Refusals.{transferRefusal, bareRefusal, countBad, badState}
+use Rattle.st7789.specs.Entries.{freshController, railReset, moved, transferred, bareTransferred, resetState, poweredSet, showsSet, brightnessSet, allMarked, warningsTaken}
+use Rattle.status.specs.Numbers.{unlessRefused}
 use Rattle.board.specs.declared.PanelConfig.{PanelConfig}
 use Rattle.board.specs.declared.Power.{Power}
 use Rattle.st7789.specs.declared.Counts.{Counts}
-use Rattle.st7789.specs.declared.BoardDomain.{BoardDomain}
+use Rattle.board.specs.declared.BoardDomain.{BoardDomain}
 use Rattle.st7789.specs.declared.Controller.{Controller}
 use Rattle.st7789.proofs.Tests.{not-bad}
 use Rattle.laws.proofs.Stays.{Good, here, moved-good}

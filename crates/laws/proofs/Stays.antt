@@ -15,7 +15,7 @@ use Rattle.pixels.specs.declared.Span.{Span}
 use Rattle.pixels.specs.declared.Span.the-variants.{Rows}
 use Rattle.pixels.proofs.Bounds.{walk-within, Ordered, span-ordered}
 use Rattle.lists.specs.Fixed.{pushAll}
-use Rattle.lists.specs.Params.{noParams, filled, differ}
+use Rattle.lists.specs.Params.{noParams, filled, differ, tooLong}
 use Rattle.lists.specs.declared.Params.{Params}
 use Rattle.lists.specs.declared.TraceRecord.{TraceRecord}
 use Rattle.lists.specs.declared.Current.{Current}
@@ -30,10 +30,13 @@ use Rattle.chip.specs.declared.InForce.{InForce}
 use Rattle.chip.specs.declared.InForce.the-variants.{Code}
 use Rattle.chip.proofs.Bounds.{ChipWithin, begun-within, released-within, taken-within}
 use Rattle.lists.proofs.Bools.{neither}
+use Rattle.lists.specs.Entries.{placeOf, storedLong, recordLong}
+use Rattle.geometry.specs.Bounds.{windowBad, pointerBad}
+use Rattle.pixels.specs.Spans.{spanBad}
 use Rattle.st7789.specs.Parts.{traceOf, warningsOf, withChip, withCounts, withTrace}
 use Rattle.st7789.specs.Command.{warning, linted, countsBegun, begunRecord, traced, begun, begunAll, released}
-use Rattle.st7789.specs.Data.{onCurrent, morePixels, moreParams, placeOf, ran, taken, dataFor, dataIn}
-use Rattle.st7789.specs.Refusals.{windowBad, pointerBad, tooLong, storedLong, recordLong, countBad, spanBad, currentBad}
+use Rattle.st7789.specs.Data.{onCurrent, morePixels, moreParams, ran, taken, dataFor, dataIn}
+use Rattle.st7789.specs.Refusals.{countBad, currentBad}
 use Rattle.st7789.specs.Entries.{moved}
 use Rattle.st7789.specs.declared.Controller.{Controller}
 use Rattle.st7789.proofs.Tests.{none-of-four, Fine, fine}

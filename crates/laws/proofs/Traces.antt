@@ -16,7 +16,7 @@ use Rattle.lists.specs.declared.Current.{Current}
 use Rattle.lists.specs.declared.Current.the-variants.{Nothing, At}
 use Rattle.lists.proofs.Bools.{neither}
 use Rattle.st7789.specs.Data.{noRecord, onCurrent}
-use Rattle.st7789.specs.Refusals.{some, recordLong}
+use Rattle.lists.specs.Entries.{some, recordLong}
 use Rattle.laws.proofs.Entries.{none-append, none-set, none-at}
 
 -- Every place of the trace has room for 14 bytes.

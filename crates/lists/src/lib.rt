@@ -1,7 +1,8 @@
 // Fixed lists and their entries: a command's parameters, the stored commands, the trace and the warnings.
 ghost use mathlib.Core.Path.{_≡_};
-ghost use Prim.Native.Nat.{_-_, min};
-ghost use Rattle.lists.specs.Params.{noParams, filled, differ};
+ghost use Prim.Native.Nat.{_-_, _≤_, min};
+ghost use Rattle.lists.specs.Entries.{some, storedLong, placeOf};
+ghost use Rattle.lists.specs.Params.{noParams, filled, excess, differ};
 
 pub const MAX_PARAMS: u8 = 14;
 
@@ -86,6 +87,17 @@ impl Params {
         self
     }
 
+    // How many of n bytes find no place.
+    pub fn excess(self, n: usize) -> u64
+        ensures answer { λ r. ⌜ r ≡ excess self n ⌝ }
+    {
+        let free = room(self.count);
+        if free < n {
+            return (n - free) as u64;
+        }
+        0
+    }
+
     pub fn differs(self, other: Params) -> bool
         ensures answer { λ r. ⌜ r ≡ differ self other ⌝ }
     {
@@ -101,5 +113,42 @@ impl Params {
             i += 1;
         }
         false
+    }
+}
+
+// Whether a stored list is longer than 14.
+pub fn stored_long(stored: [Stored; 12]) -> bool
+    ensures answer { λ r. ⌜ r ≡ some storedLong stored ⌝ }
+{
+    let mut i = 0;
+    while i < 12 {
+        let entry = stored[i];
+        let params = entry.params;
+        if entry.present & (params.count > MAX_PARAMS) {
+            return true;
+        }
+        i += 1;
+    }
+    false
+}
+
+// The place of a stored command, 12 for any other.
+pub fn stored_place(c: u8) -> usize
+    ensures answer { λ r. ⌜ r ≡ placeOf c ⌝ }
+{
+    match c {
+        0xB2 => 0,
+        0xB7 => 1,
+        0xBB => 2,
+        0xC0 => 3,
+        0xC2 => 4,
+        0xC3 => 5,
+        0xC4 => 6,
+        0xC6 => 7,
+        0xD0 => 8,
+        0xD6 => 9,
+        0xE0 => 10,
+        0xE1 => 11,
+        _ => 12,
     }
 }

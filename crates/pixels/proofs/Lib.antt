@@ -4,3 +4,4 @@ pub mod Bounds
 pub mod Steps
 pub mod Turns
 pub mod Examples
+pub mod Clearing

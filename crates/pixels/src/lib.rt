@@ -4,6 +4,7 @@ ghost use mathlib.Core.List.{[], _∷_};
 ghost use Prim.Native.Nat.{_+_, _-_, _*_, _/_, _^_, _<_, min, max};
 ghost use lib.ListN.{set};
 ghost use Rattle.pixels.specs.declared.Carry.the-variants.{High};
+ghost use Rattle.pixels.specs.Spans.{spanBad, allRows, zeroed};
 ghost use Rattle.pixels.specs.Run.{stores, written, mark, walkedOn, unwalked};
 use geometry::Outcome;
 use geometry::Pointer;
@@ -176,4 +177,32 @@ pub fn walk_pixels(window: Window, madctl: u8, walk: Walk, dirty: Span, bytes: &
 {
     let mut none = [0u16; 1];
     write_pixels(window, madctl, walk, dirty, bytes, &mut none[0..0])
+}
+
+// Every row.
+pub fn all_rows() -> Span
+    ensures answer { λ r. ⌜ r ≡ allRows ⌝ }
+{
+    Span::Rows(0, 319)
+}
+
+// Whether a span is one that no pixel leaves.
+pub fn span_bad(dirty: Span) -> bool
+    ensures answer { λ r. ⌜ r ≡ spanBad dirty ⌝ }
+{
+    match dirty {
+        Span::Nothing => false,
+        Span::Rows(first, last) => (first > last) | (last > 319),
+    }
+}
+
+// Panel memory as a panel comes up.
+pub fn clear(memory: &mut [u16])
+    ensures lent { λ r. ⌜ now (memory .exit) ≡ zeroed (now (memory .entry)) ⌝ }
+{
+    let mut k = 0;
+    while k < memory.len() {
+        memory[k] = 0;
+        k += 1;
+    }
 }

@@ -3,7 +3,7 @@
 use libc::STDOUT_FILENO;
 use pixels::Span;
 use st7789::Controller;
-use st7789::Status;
+use status::Status;
 use views::Memory;
 
 fn print_status(status: Status) {

@@ -9,9 +9,11 @@ use lib.Dec.{ltb, eqb·suc-zero}
 use Rattle.pixels.specs.declared.Span.{Span}
 use Rattle.pixels.specs.declared.Span.the-variants.{Nothing, Rows}
 use Rattle.lists.proofs.Bools.{neither}
+use Rattle.pixels.specs.Spans.{spanBad}
 use Rattle.st7789.specs.Parts.{withDirty}
-use Rattle.st7789.specs.Refusals.{number, spanBad, badState}
-use Rattle.st7789.specs.declared.Status.{Status}
+use Rattle.st7789.specs.Refusals.{badState}
+use Rattle.status.specs.Numbers.{number}
+use Rattle.status.specs.declared.Status.{Status}
 use Rattle.st7789.specs.declared.Controller.{Controller}
 use Rattle.st7789.proofs.Tests.{fine}
 use Rattle.publishing.specs.Publish.{copied, spanCopied, publishRefusal, flagsOf, noFlags, publishedSpan, publishedFlags, published, publishedFrame}

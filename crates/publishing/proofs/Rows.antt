@@ -11,7 +11,7 @@ use lib.Seq.{ext-getD}
 use Rattle.pixels.specs.declared.Span.{Span}
 use Rattle.pixels.specs.declared.Span.the-variants.{Nothing, Rows}
 use Rattle.st7789.specs.Parts.{withDirty}
-use Rattle.st7789.specs.Refusals.{spanBad}
+use Rattle.pixels.specs.Spans.{spanBad}
 use Rattle.st7789.specs.declared.Controller.{Controller}
 use Rattle.publishing.specs.Publish.{copied, spanCopied, inSpan, published}
 use Rattle.publishing.proofs.Copies.{upTo, before, between, after}

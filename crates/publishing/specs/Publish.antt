@@ -9,7 +9,7 @@ use Rattle.pixels.specs.declared.Span.{Span}
 use Rattle.pixels.specs.declared.Span.the-variants.{Nothing, Rows}
 use Rattle.st7789.specs.Parts.{withDirty}
 use Rattle.st7789.specs.Refusals.{badState}
-use Rattle.st7789.specs.Entries.{unlessRefused}
+use Rattle.status.specs.Numbers.{unlessRefused}
 use Rattle.st7789.specs.declared.Controller.{Controller}
 use Rattle.publishing.specs.declared.Flags.{Flags}
 

@@ -4,12 +4,13 @@ ghost use Prim.Native.Nat.{_+_, _*_, _≤_, _<_};
 ghost use lib.ListN.{length};
 ghost use mathlib.Core.Bool.{false};
 ghost use Rattle.pixels.specs.declared.Span.the-variants.{Nothing};
-ghost use Rattle.st7789.specs.Refusals.{number, spanBad};
+ghost use Rattle.pixels.specs.Spans.{spanBad};
+ghost use Rattle.status.specs.Numbers.{number};
 ghost use Rattle.publishing.specs.Publish.{copied, spanCopied, publishRefusal, flagsOf, noFlags, publishedSpan, publishedFlags, published, publishedFrame};
 use pixels::Span;
 use st7789::Controller;
 use st7789::Marks;
-use st7789::Status;
+use status::Status;
 
 const PANEL_PIXELS: usize = 76800;
 

@@ -1,20 +1,20 @@
 -- What an accepted call may rely on, and what accepted and refused calls leave.
-use Prim.Native.Nat.{ℕ, suc, _+_, _-_, _^_, _≤_, _<_}
+use Prim.Native.Nat.{ℕ, suc, _+_, _^_, _≤_, _<_}
 use mathlib.Core.Path.{_≡_, refl, sym, ap, _∙_}
-use mathlib.Core.Bool.{Bool, true, false, cond, not}
-use mathlib.Core.List.{List, [], _++_, append-nil}
+use mathlib.Core.Bool.{Bool, true, false, cond, not, _&&_, true≢false}
+use mathlib.Core.List.{List}
 use native.Mathlib.Omega.{arith}
-use borrow.Author.Fill.{fill-more}
-use borrow.Author.Tests.{ltb-false, eqb-true, eq-eqb, ne-eqb}
+use borrow.Author.Tests.{ltb-false, eqb-true}
 use lib.Dec.{eqb, ltb}
-use lib.ListN.{length, drop, set, replicate, length-set, drop-of-length-le}
 use Rattle.pixels.specs.Run.{written}
-use Rattle.lists.proofs.Bools.{neither}
+use Rattle.lists.proofs.Bools.{neither, both}
+use Rattle.status.specs.Tests.{high}
 use Rattle.st7789.specs.Command.{begunAll, released}
 use Rattle.st7789.specs.Data.{dataIn, storesIn}
-use Rattle.st7789.specs.Refusals.{badState, pixelsHeld, high, countHigh, transferRefusal, bareRefusal, memoryRefusal}
+use Rattle.st7789.specs.Refusals.{badState, pixelsHeld, countHigh, transferRefusal, bareRefusal}
 use Rattle.st7789.specs.Room.{Room}
-use Rattle.st7789.specs.Entries.{freshController, zeroed, unlessRefused, railReset, moved, allMarked}
+use Rattle.st7789.specs.Entries.{moved}
+use Rattle.status.specs.Numbers.{unlessRefused}
 use Rattle.st7789.specs.declared.Controller.{Controller}
 use Rattle.st7789.proofs.Tests.{current-placed}
 
@@ -70,35 +70,20 @@ module _ {n refusal : ℕ} {ok : Bool} (en : n ≡ refusal) (eo : ok ≡ eqb n 0
   pub old-left : {A : Type 0} (new : A) {old : A} → ok ≡ false → old ≡ unlessRefused refusal new old
   old-left new {old} h = ap (λ b. cond b new old) (sym h ∙ zero-told)
 
--- The test of memory alone.
-module _ {cells : ℕ} (bad : cells ≡ 76800 → ⊥) where
-  pub bad-memory : 2 ≡ memoryRefusal cells
-  bad-memory = ap (λ b. cond b 0 2) (sym (ne-eqb cells 76800 bad))
+-- What a reset leaves: the new where it is accepted and the rail's, the old elsewhere.
+module _ {n refusal : ℕ} {ok r rail : Bool} (en : n ≡ refusal) (eo : ok ≡ eqb n 0) (er : r ≡ rail) where
+  pub renewed : {A : Type 0} {new x : A} (old : A) → ok && r ≡ true → x ≡ new → x ≡ unlessRefused refusal (cond rail new old) old
+  renewed {A} {new} {x} old h e =
+      let t = both ok r h in
+      new-left en eo old (t .0) (e ∙ ap (λ b. cond b new old) (sym (t .1) ∙ er))
 
-  pub memory-kept : {A : Type 0} (new : A) {old : A} → old ≡ unlessRefused (memoryRefusal cells) new old
-  memory-kept new {old} = ap (λ n. unlessRefused n new old) bad-memory
-
-module _ {cells : ℕ} (good : cells ≡ 76800) where
-  pub good-memory : 0 ≡ memoryRefusal cells
-  good-memory = ap (λ b. cond b 0 2) (sym (eq-eqb cells 76800 good))
-
-  pub memory-taken : {A : Type 0} {new x : A} (old : A) → x ≡ new → x ≡ unlessRefused (memoryRefusal cells) new old
-  memory-taken {A} {new} {x} old e = e ∙ ap (λ n. unlessRefused n new old) good-memory
-
--- Board rail or not.
-pub rail-reset :
-    (s : Controller) (rail : Bool) {fresh marked : Controller} → rail ≡ true → fresh ≡ freshController (s .cfg .«invon_shows_ram») →
-    marked ≡ allMarked fresh → marked ≡ railReset rail s
-rail-reset s rail e ef em = em ∙ ap allMarked ef ∙ ap (λ b. railReset b s) (sym e)
-
-pub rail-kept : (s : Controller) (rail : Bool) → rail ≡ false → s ≡ railReset rail s
-rail-kept s rail e = ap (λ b. railReset b s) (sym e)
-
-pub memory-cleared : {rail : Bool} (m : List ℕ) {l : List ℕ} → rail ≡ true → l ≡ zeroed m → l ≡ cond rail (zeroed m) m
-memory-cleared m e el = el ∙ ap (λ b. cond b (zeroed m) m) (sym e)
-
-pub memory-stays : {rail : Bool} (m : List ℕ) → rail ≡ false → m ≡ cond rail (zeroed m) m
-memory-stays m e = ap (λ b. cond b (zeroed m) m) (sym e)
+  pub kept : {A : Type 0} (new old : A) → ok && r ≡ false → old ≡ unlessRefused refusal (cond rail new old) old
+  kept new old h = by-tests ok r refl refl h
+    where
+      by-tests : (a b : Bool) → ok ≡ a → r ≡ b → a && b ≡ false → old ≡ unlessRefused refusal (cond rail new old) old
+      by-tests false b ea eb e = old-left en eo (cond rail new old) ea
+      by-tests true false ea eb e = new-left en eo old ea (ap (λ b. cond b new old) (sym eb ∙ er))
+      by-tests true true ea eb e = absurd (true≢false e)
 
 -- A segment of data or of commands, and then the release.
 module _ (t : ℕ) (bytes : List ℕ) (cs : Bool) (s : Controller) {after r : Controller} (er : r ≡ cond cs (released after) after) where
@@ -116,27 +101,3 @@ module _ (bytes m : List ℕ) (s : Controller) {dc : Bool} where
 
   pub stored-none : dc ≡ false → m ≡ written m (storesIn dc bytes s)
   stored-none e = rw e
-
--- The loop that clears memory.
-pub record Cleared (m₀ m : List ℕ) (i : ℕ) : Type 0 where
-  pub within : i ≤ length m₀
-  pub long : length m ≡ length m₀
-  pub cleared : m ≡ replicate i 0 ++ drop i m₀
-
-pub cleared-first : {m : List ℕ} → Cleared m m 0
-cleared-first = record { within = omega arith; long = refl; cleared = refl }
-
-pub cleared-next : {m₀ m : List ℕ} {i : ℕ} → Cleared m₀ m i → i < length m → Cleared m₀ (set m i 0) (i + 1)
-cleared-next {m₀} {m} {i} u h =
-    record {
-      within = omega (arith, u .long);
-      long = length-set m i 0 ∙ u .long;
-      cleared = ap (λ l. set l i 0) (u .cleared) ∙ fill-more i 0 m₀ (omega (arith, u .long));
-    }
-
-pub cleared-last : {m₀ m : List ℕ} {i : ℕ} → Cleared m₀ m i → length m ≤ i → m ≡ zeroed m₀
-cleared-last {m₀} {m} {i} u h =
-    let k : i ≡ length m₀ = omega (arith, u .long, u .within) in
-    let out : length m₀ ≤ i = omega (arith, u .long) in
-    let d : drop i m₀ ≡ [] = drop-of-length-le m₀ out in
-    u .cleared ∙ ap (λ l. replicate i 0 ++ l) d ∙ append-nil (replicate i 0) ∙ ap (λ n. replicate n 0) k

@@ -11,7 +11,7 @@ use mir.Syntax.{w64}
 use Rattle.pixels.specs.Run.{stores, written}
 use Rattle.pixels.specs.declared.Walked.{Walked}
 use Rattle.pixels.proofs.Laws.{counted-few}
-use Rattle.lists.specs.Params.{filled}
+use Rattle.lists.specs.Params.{filled, excess}
 use Rattle.lists.specs.declared.Params.{Params}
 use Rattle.lists.specs.declared.TraceRecord.{TraceRecord}
 use Rattle.lists.specs.declared.Current.{Current}
@@ -20,8 +20,9 @@ use Rattle.chip.specs.Apply.{chipTaken}
 use Rattle.chip.specs.declared.InForce.{InForce}
 use Rattle.chip.specs.declared.InForce.the-variants.{Code}
 use Rattle.chip.specs.declared.Chip.{Chip}
+use Rattle.lists.specs.Entries.{placeOf}
 use Rattle.st7789.specs.Parts.{withChip, withCounts, withDirty, withStored}
-use Rattle.st7789.specs.Data.{noRecord, onCurrent, withRecords, morePixels, moreParams, walkOver, walkedChip, pixelsAdded, droppedAdded, placeOf, storedAfter, ran, taken, dataFor, dataIn, storesIn}
+use Rattle.st7789.specs.Data.{noRecord, onCurrent, withRecords, morePixels, moreParams, walkOver, walkedChip, pixelsAdded, droppedAdded, storedAfter, ran, taken, dataFor, dataIn, storesIn}
 use Rattle.st7789.specs.Refusals.{pixelsHeld}
 use Rattle.st7789.specs.Room.{Placed, Room}
 use Rattle.st7789.specs.declared.Controller.{Controller}
@@ -58,9 +59,9 @@ module _ (s : Controller) (bytes : List ℕ) where
   pixels-fit w traced records room ew et = let h = few w ew in rw et (record { fits = omega (arith, room .pixels) })
 
   pub dropped-fit :
-      (n : ℕ) (traced : Controller) (records : List TraceRecord) → Room (length bytes) s → n ≤ length bytes → traced ≡ withRecords records s →
-      Fits w64 (traced .counts .«dropped_params» + n)
-  dropped-fit n traced records room h et = rw et (record { fits = omega (arith, room .dropped) })
+      (n : ℕ) (traced : Controller) (records : List TraceRecord) → Room (length bytes) s → n ≡ excess (s .chip .decoder .params) (length bytes) →
+      traced ≡ withRecords records s → Fits w64 (traced .counts .«dropped_params» + n)
+  dropped-fit n traced records room e et = rw et (record { fits = omega (arith, room .dropped) })
 
   pub pixels-put :
       (w : Walked) (traced : Controller) → w ≡ walkOver s bytes →
@@ -70,7 +71,7 @@ module _ (s : Controller) (bytes : List ℕ) where
   pixels-put w traced ew et = rw (ew, et)
 
   pub params-put :
-      (c n : ℕ) (p : Params) (k : Chip) (traced r : Controller) → n ≡ length bytes - (14 - s .chip .decoder .params .count) →
+      (c n : ℕ) (p : Params) (k : Chip) (traced r : Controller) → n ≡ excess (s .chip .decoder .params) (length bytes) →
       p ≡ filled (s .chip .decoder .params) bytes → k ≡ chipTaken c bytes (s .chip) →
       traced ≡ withRecords (onCurrent (moreParams bytes) (s .logs .current) (s .records)) s →
       r ≡ withStored (storedAfter c p (traced .stored)) (withCounts (droppedAdded n (traced .counts)) (withChip k traced)) → r ≡ taken c bytes s

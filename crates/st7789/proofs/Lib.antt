@@ -1,5 +1,4 @@
 pub mod Commands
-pub mod Lists
 pub mod Datas
 pub mod Tests
 pub mod Accepted

@@ -8,14 +8,17 @@ use borrow.Author.Tests.{eq-eqb, ne-eqb, eqb-true, ltb-false, not-false}
 use lib.ListN.{getD}
 use lib.Dec.{eqb}
 use Rattle.lists.specs.Fixed.{used}
-use Rattle.lists.specs.Params.{differ}
+use Rattle.lists.specs.Params.{differ, tooLong}
 use Rattle.lists.specs.declared.TraceRecord.{TraceRecord}
 use Rattle.lists.specs.declared.Current.{Current}
 use Rattle.lists.specs.declared.Current.the-variants.{Nothing, At}
 use Rattle.lists.proofs.Bools.{neither}
+use Rattle.lists.specs.Entries.{some, storedLong, recordLong}
+use Rattle.geometry.specs.Bounds.{windowBad, pointerBad}
+use Rattle.pixels.specs.Spans.{spanBad}
 use Rattle.st7789.specs.Parts.{traceOf}
 use Rattle.st7789.specs.Data.{noRecord}
-use Rattle.st7789.specs.Refusals.{some, windowBad, pointerBad, tooLong, storedLong, recordLong, countBad, spanBad, currentBad, badState, pixelsHeld}
+use Rattle.st7789.specs.Refusals.{countBad, currentBad, badState, pixelsHeld}
 use Rattle.st7789.specs.Room.{Placed}
 use Rattle.st7789.specs.declared.Controller.{Controller}
 

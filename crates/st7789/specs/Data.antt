@@ -1,13 +1,13 @@
 -- Document 01, "Commands", on data: in a run, for a command, or lost.
-use Prim.Native.Nat.{ℕ, suc, _+_, _-_}
+use Prim.Native.Nat.{ℕ, _+_}
 use mathlib.Core.Bool.{Bool, true, cond, _&&_}
-use mathlib.Core.List.{List, [], _∷_}
+use mathlib.Core.List.{List, []}
 use lib.ListN.{length, set, getD}
-use lib.Dec.{eqb}
 use Rattle.pixels.specs.Run.{Store, stores, walkedOn, unwalked}
 use Rattle.pixels.specs.declared.Walk.{Walk}
 use Rattle.pixels.specs.declared.Walked.{Walked}
-use Rattle.lists.specs.Params.{filled}
+use Rattle.lists.specs.Entries.{placeOf}
+use Rattle.lists.specs.Params.{filled, excess}
 use Rattle.lists.specs.declared.Params.{Params}
 use Rattle.lists.specs.declared.Stored.{Stored}
 use Rattle.lists.specs.declared.TraceRecord.{TraceRecord}
@@ -74,18 +74,6 @@ ran bytes s =
     (withChip (walkedChip (walkOver s bytes .walk) (s .chip))
     (withRecords (onCurrent (morePixels (length bytes)) (s .logs .current) (s .records)) s)))
 
--- "Twelve stored commands"; the place of each, 12 for any other code.
-abbrev pub storedCommands : List ℕ
-storedCommands =
-    0xB2 ∷ 0xB7 ∷ 0xBB ∷ 0xC0 ∷ 0xC2 ∷ 0xC3 ∷ 0xC4 ∷ 0xC6 ∷ 0xD0 ∷ 0xD6 ∷ 0xE0 ∷ 0xE1 ∷ []
-
-abbrev pub placeIn : List ℕ → ℕ → ℕ
-placeIn [] c = 0
-placeIn (k ∷ ks) c = cond (eqb c k) 0 (suc (placeIn ks c))
-
-abbrev pub placeOf : ℕ → ℕ
-placeOf c = placeIn storedCommands c
-
 -- "A stored command stores its list on every data segment, an empty one too, so the last wins." Past the twelve places `set` stores nothing.
 abbrev pub storedAfter : ℕ → Params → List Stored → List Stored
 storedAfter c p l = set l (placeOf c) (record { present = true; params = p })
@@ -94,7 +82,7 @@ storedAfter c p l = set l (placeOf c) (record { present = true; params = p })
 unfoldable pub taken : ℕ → List ℕ → Controller → Controller
 taken c bytes s =
     withStored (storedAfter c (filled (s .chip .decoder .params) bytes) (s .stored))
-    (withCounts (droppedAdded (length bytes - (14 - s .chip .decoder .params .count)) (s .counts))
+    (withCounts (droppedAdded (excess (s .chip .decoder .params) (length bytes)) (s .counts))
     (withChip (chipTaken c bytes (s .chip))
     (withRecords (onCurrent (moreParams bytes) (s .logs .current) (s .records)) s)))
 

@@ -1,22 +1,22 @@
 -- Document 01: what the public operations leave behind. "A refusal gives back the state it got .. and every lent number as before."
 use Prim.Native.Nat.{ℕ}
-use mathlib.Core.Bool.{Bool, true, false, cond}
+use mathlib.Core.Bool.{Bool, false, cond}
 use mathlib.Core.List.{List}
 use lib.ListN.{length, replicate}
-use lib.Dec.{eqb}
 use Rattle.pixels.specs.Run.{written}
 use Rattle.pixels.specs.declared.Span.{Span}
-use Rattle.pixels.specs.declared.Span.the-variants.{Rows}
+use Rattle.pixels.specs.Spans.{allRows, zeroed}
 use Rattle.lists.specs.Params.{noParams}
 use Rattle.lists.specs.declared.Current.{Current}
-use Rattle.board.specs.Board.{switchedTo, unpowered, poweredTo, litTo}
+use Rattle.board.specs.Board.{switchedTo, unpowered, poweredTo, litTo, isBoardRail}
+use Rattle.board.specs.declared.BoardDomain.{BoardDomain}
 use Rattle.chip.specs.Begin.{freshChip}
+use Rattle.status.specs.Numbers.{unlessRefused}
+use Rattle.status.specs.Tests.{memoryRefusal}
 use Rattle.st7789.specs.Parts.{withCfg, withPower, withDirty, withWarnings}
 use Rattle.st7789.specs.Command.{begunAll, released}
 use Rattle.st7789.specs.Data.{dataIn, storesIn}
-use Rattle.st7789.specs.Refusals.{transferRefusal, bareRefusal, memoryRefusal}
-use Rattle.st7789.specs.declared.BoardDomain.{BoardDomain}
-use Rattle.st7789.specs.declared.BoardDomain.the-variants.{McuRail, Rtc, BoardRail, Battery, Card, Flash, Host}
+use Rattle.st7789.specs.Refusals.{transferRefusal, bareRefusal}
 use Rattle.st7789.specs.declared.Taken.{Taken}
 use Rattle.st7789.specs.declared.Controller.{Controller}
 
@@ -35,27 +35,7 @@ freshController shows =
       warnings = replicate 128 (record { at = 0; rule = 0; cmd = 0 });
     }
 
--- "memory zero"
-abbrev pub zeroed : List ℕ → List ℕ
-zeroed memory = replicate (length memory) 0
-
--- The new where nothing was refused, and the old where something was.
-abbrev pub unlessRefused : {A : Type 0} → ℕ → A → A → A
-unlessRefused refusal new old = cond (eqb refusal 0) new old
-
 -- "Board rail: fresh with the switch kept, and all rows marked; the other six domains change nothing."
-abbrev pub allRows : Span
-allRows = Rows 0 319
-
-abbrev pub isBoardRail : BoardDomain → Bool
-isBoardRail McuRail = false
-isBoardRail Rtc = false
-isBoardRail BoardRail = true
-isBoardRail Battery = false
-isBoardRail Card = false
-isBoardRail Flash = false
-isBoardRail Host = false
-
 abbrev pub railReset : Bool → Controller → Controller
 railReset rail s = cond rail (withDirty allRows (freshController (s .cfg .«invon_shows_ram»))) s
 

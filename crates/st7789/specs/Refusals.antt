@@ -1,67 +1,25 @@
--- Document 01's table of refusals: their numbers, and when each is given.
-use Prim.Native.Nat.{ℕ, _+_, _^_}
+-- Document 01's table of refusals: when each is given.
+use Prim.Native.Nat.{ℕ, _+_}
 use mathlib.Core.Bool.{Bool, false, cond, not, _&&_, _||_}
-use mathlib.Core.List.{List, [], _∷_}
+use mathlib.Core.List.{List}
 use lib.ListN.{getD}
 use lib.Dec.{ltb, eqb}
-use Rattle.geometry.specs.declared.Window.{Window}
-use Rattle.geometry.specs.declared.Pointer.{Pointer}
-use Rattle.pixels.specs.declared.Span.{Span}
-use Rattle.pixels.specs.declared.Span.the-variants.{Rows}
 use Rattle.lists.specs.Fixed.{used}
-use Rattle.lists.specs.Params.{differ}
-use Rattle.lists.specs.declared.Params.{Params}
-use Rattle.lists.specs.declared.Stored.{Stored}
+use Rattle.lists.specs.Entries.{some, storedLong, recordLong}
+use Rattle.lists.specs.Params.{tooLong, differ}
+use Rattle.geometry.specs.Bounds.{windowBad, pointerBad}
+use Rattle.pixels.specs.Spans.{spanBad}
+use Rattle.status.specs.Tests.{countsHigh, transferTests}
 use Rattle.lists.specs.declared.TraceRecord.{TraceRecord}
 use Rattle.lists.specs.declared.Current.{Current}
 use Rattle.lists.specs.declared.Current.the-variants.{Nothing, At}
 use Rattle.st7789.specs.Parts.{traceOf}
 use Rattle.st7789.specs.Data.{noRecord}
-use Rattle.st7789.specs.declared.Status.{Status}
-use Rattle.st7789.specs.declared.Status.the-variants.{Ok, BadState, BadMemory, BadFrame, TooLong, CountHigh, LogLong, BadLog}
 use Rattle.st7789.specs.declared.Controller.{Controller}
-
--- "No. | Name"
-abbrev pub number : Status → ℕ
-number Ok = 0
-number BadState = 1
-number BadMemory = 2
-number BadFrame = 3
-number TooLong = 4
-number CountHigh = 5
-number LogLong = 6
-number BadLog = 7
-
--- Some element passes the test.
-abbrev pub some : {A : Type 0} → (A → Bool) → List A → Bool
-some test [] = false
-some test (x ∷ xs) = test x || some test xs
-
--- "a window corner or pointer coordinate is above 319"
-abbrev pub windowBad : Window → Bool
-windowBad w = ltb 319 (w .xs) || (ltb 319 (w .xe) || (ltb 319 (w .ys) || ltb 319 (w .ye)))
-
-abbrev pub pointerBad : Pointer → Bool
-pointerBad p = ltb 319 (p .x) || ltb 319 (p .y)
-
--- "a parameter list (in force, stored, or in a used trace record) is longer than 14"
-abbrev pub tooLong : Params → Bool
-tooLong p = ltb 14 (p .count)
-
-abbrev pub storedLong : Stored → Bool
-storedLong e = e .present && tooLong (e .params)
-
-abbrev pub recordLong : TraceRecord → Bool
-recordLong r = tooLong (r .params)
 
 -- "trace or warnings count above 128"
 abbrev pub countBad : ℕ → Bool
 countBad n = ltb 128 n
-
--- "the dirty span has first above last, or last above 319"
-abbrev pub spanBad : Span → Bool
-spanBad Span.Nothing = false
-spanBad (Rows first last) = ltb last first || ltb 319 last
 
 -- "a current trace record isn't the last used one, or its parameters differ from those in force"
 abbrev pub currentBad : Current → Controller → Bool
@@ -85,26 +43,16 @@ abbrev pub pixelsHeld : Current → List TraceRecord → ℕ
 pixelsHeld Nothing records = 0
 pixelsHeld (At i) records = getD records i noRecord .«pixel_bytes»
 
--- COUNT_HIGH: "one of commands, ramwr_count, pixels_written, dropped_params, or the current trace record's pixel bytes is above 2^63"
-abbrev pub high : ℕ → Bool
-high n = ltb (2 ^ 63) n
-
+-- COUNT_HIGH
 unfoldable pub countHigh : Controller → Bool
 countHigh s =
-    high (s .counts .commands) ||
-    (high (s .counts .«ramwr_count») ||
-    (high (s .counts .«pixels_written») ||
-    (high (s .counts .«dropped_params») || high (pixelsHeld (s .logs .current) (s .records)))))
+    countsHigh (s .counts .commands) (s .counts .«ramwr_count») (s .counts .«pixels_written») (s .counts .«dropped_params»)
+    (pixelsHeld (s .logs .current) (s .records))
 
 -- "Tests run in number order": BAD_STATE, BAD_MEMORY, TOO_LONG, COUNT_HIGH for a transfer.
 unfoldable pub transferRefusal : Controller → ℕ → ℕ → ℕ
-transferRefusal s cells bytes =
-    cond (badState s) 1 (cond (not (eqb cells 76800)) 2 (cond (ltb 65536 bytes) 4 (cond (countHigh s) 5 0)))
+transferRefusal s cells bytes = cond (badState s) 1 (transferTests cells bytes (countHigh s))
 
 -- The same without memory.
 unfoldable pub bareRefusal : Controller → ℕ → ℕ
 bareRefusal s bytes = cond (badState s) 1 (cond (ltb 65536 bytes) 4 (cond (countHigh s) 5 0))
-
--- BAD_MEMORY alone: making a panel over lent memory, and resetting.
-abbrev pub memoryRefusal : ℕ → ℕ
-memoryRefusal cells = cond (eqb cells 76800) 0 2

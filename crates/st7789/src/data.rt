@@ -1,10 +1,10 @@
 // Data: pixels of a run, parameters of a command, or lost.
 ghost use mathlib.Core.Path.{_≡_};
 ghost use mathlib.Core.Bool.{true};
-ghost use Prim.Native.Nat.{_+_, _-_, _^_, _<_, _≤_};
+ghost use Prim.Native.Nat.{_+_, _^_, _<_};
 ghost use lib.ListN.{length, getD, set};
 ghost use Rattle.pixels.specs.Run.{stores, written};
-ghost use Rattle.st7789.specs.Data.{noRecord, onCurrent, withRecords, morePixels, moreParams, placeOf, storedAfter, ran, taken, dataIn, storesIn};
+ghost use Rattle.st7789.specs.Data.{noRecord, onCurrent, withRecords, morePixels, moreParams, storedAfter, ran, taken, dataIn, storesIn};
 ghost use Rattle.st7789.specs.Parts.{withStored};
 ghost use Rattle.st7789.specs.Refusals.{pixelsHeld};
 ghost use Rattle.st7789.specs.Room.{Placed, Room};
@@ -15,41 +15,6 @@ use chip::InForce;
 use lists::Current;
 use lists::Params;
 use lists::Stored;
-
-// How many of n bytes find no place behind `count` parameters.
-fn excess(n: usize, count: u8) -> u64
-    ensures { λ r. ⌜ (r ≡ n - (14 - count)) × (r ≤ n) ⌝ }
-{
-    if count < 14 {
-        let room = wide(14 - count);
-        if room < n {
-            return (n - room) as u64;
-        }
-        return 0;
-    }
-    n as u64
-}
-
-// The place of a stored command, 12 for any other.
-fn stored_place(c: u8) -> usize
-    ensures { λ r. ⌜ r ≡ placeOf c ⌝ }
-{
-    match c {
-        0xB2 => 0,
-        0xB7 => 1,
-        0xBB => 2,
-        0xC0 => 3,
-        0xC2 => 4,
-        0xC3 => 5,
-        0xC4 => 6,
-        0xC6 => 7,
-        0xD0 => 8,
-        0xD6 => 9,
-        0xE0 => 10,
-        0xE1 => 11,
-        _ => 12,
-    }
-}
 
 impl Controller {
     fn add_pixel_bytes(mut self, i: usize, n: u64) -> Controller
@@ -101,7 +66,7 @@ impl Controller {
     fn store(mut self, c: u8, params: Params) -> Controller
         ensures { λ r. ⌜ r ≡ withStored (storedAfter c params (self .stored)) self ⌝ }
     {
-        let at = stored_place(c);
+        let at = lists::stored_place(c);
         if at < 12 {
             self.stored[at] = Stored {
                 present: true,
@@ -142,7 +107,7 @@ impl Controller {
         let old_chip = self.chip;
         let decoder = old_chip.decoder;
         let params = decoder.params;
-        let lost = excess(bytes.len(), params.count);
+        let lost = params.excess(bytes.len());
         let list = params.append(bytes);
         let chip = old_chip.take(c, bytes);
         let mut after = self.trace_params(bytes);

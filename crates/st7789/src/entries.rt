@@ -1,59 +1,20 @@
 // What a host calls: a panel made over lent memory, transfers with and without memory, and the reset of a board domain.
 ghost use mathlib.Core.Path.{_≡_};
 ghost use mathlib.Core.Bool.{cond};
-ghost use lib.Dec.{eqb};
 ghost use lib.ListN.{length};
 ghost use Rattle.pixels.specs.Run.{written};
 ghost use Rattle.st7789.specs.Command.{released};
 ghost use Rattle.st7789.specs.Data.{storesIn};
-ghost use Rattle.st7789.specs.Entries.{freshController, zeroed, isBoardRail, moved, transferred, transferMemory, bareTransferred, resetState, resetMemory, newMemory};
-ghost use Rattle.st7789.specs.Refusals.{number, transferRefusal, bareRefusal, memoryRefusal};
+ghost use Rattle.st7789.specs.Entries.{freshController, moved, transferred, transferMemory, bareTransferred, resetState, resetMemory, newMemory};
+ghost use Rattle.st7789.specs.Refusals.{transferRefusal, bareRefusal};
 ghost use Rattle.st7789.specs.Room.{Room};
+ghost use Rattle.status.specs.Numbers.{number};
+ghost use Rattle.status.specs.Tests.{memoryRefusal};
 use crate::Answer;
-use crate::BoardDomain;
 use crate::Controller;
-use crate::Status;
-
-const PANEL_PIXELS: usize = 76800;
-
-fn accepted(status: Status) -> bool
-    ensures { λ r. ⌜ r ≡ eqb (number status) 0 ⌝ }
-{
-    match status {
-        Status::Ok => true,
-        Status::BadState => false,
-        Status::BadMemory => false,
-        Status::BadFrame => false,
-        Status::TooLong => false,
-        Status::CountHigh => false,
-        Status::LogLong => false,
-        Status::BadLog => false,
-    }
-}
-
-fn is_board_rail(domain: BoardDomain) -> bool
-    ensures { λ r. ⌜ r ≡ isBoardRail domain ⌝ }
-{
-    match domain {
-        BoardDomain::McuRail => false,
-        BoardDomain::Rtc => false,
-        BoardDomain::BoardRail => true,
-        BoardDomain::Battery => false,
-        BoardDomain::Card => false,
-        BoardDomain::Flash => false,
-        BoardDomain::Host => false,
-    }
-}
-
-fn zero(memory: &mut [u16])
-    ensures { λ r. ⌜ now (memory .exit) ≡ zeroed (now (memory .entry)) ⌝ }
-{
-    let mut i = 0;
-    while i < memory.len() {
-        memory[i] = 0;
-        i += 1;
-    }
-}
+use board::BoardDomain;
+use status::PANEL_PIXELS;
+use status::accepted;
 
 impl Controller {
     fn release_if(self, cs_release: bool) -> Controller
@@ -133,24 +94,17 @@ impl Controller {
         ensures answer { λ r. ⌜ r .controller ≡ resetState domain (length (now (memory .entry))) self ⌝ }
         ensures lent { λ r. ⌜ now (memory .exit) ≡ resetMemory domain (now (memory .entry)) ⌝ }
     {
-        if memory.len() != PANEL_PIXELS {
-            return Answer {
-                controller: self,
-                status: Status::BadMemory,
-            };
-        }
-        if is_board_rail(domain) {
-            zero(memory);
+        let status = status::memory_status(memory.len());
+        let rail = board::is_board_rail(domain);
+        if accepted(status) & rail {
+            pixels::clear(memory);
             let fresh = Controller::fresh(self.cfg.invon_shows_ram);
             let controller = fresh.mark_all_dirty();
-            return Answer {
-                controller,
-                status: Status::Ok,
-            };
+            return Answer { controller, status };
         }
         Answer {
             controller: self,
-            status: Status::Ok,
+            status,
         }
     }
 
@@ -161,16 +115,11 @@ impl Controller {
         ensures lent { λ r. ⌜ now (memory .exit) ≡ newMemory (now (memory .entry)) ⌝ }
     {
         let controller = Controller::fresh(invon_shows_ram);
-        if memory.len() != PANEL_PIXELS {
-            return Answer {
-                controller,
-                status: Status::BadMemory,
-            };
+        let status = status::memory_status(memory.len());
+        if accepted(status) {
+            pixels::clear(memory);
+            return Answer { controller, status };
         }
-        zero(memory);
-        Answer {
-            controller,
-            status: Status::Ok,
-        }
+        Answer { controller, status }
     }
 }

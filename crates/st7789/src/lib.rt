@@ -8,6 +8,7 @@ use lists::Stored;
 use lists::TraceRecord;
 use lists::Warning;
 use pixels::Span;
+use status::Status;
 
 mod command;
 mod data;
@@ -47,18 +48,6 @@ pub struct Controller {
     pub warnings: [Warning; 128],
 }
 
-// What an operation says of its arguments: that it accepts them, or why it refuses.
-pub enum Status {
-    Ok,
-    BadState,
-    BadMemory,
-    BadFrame,
-    TooLong,
-    CountHigh,
-    LogLong,
-    BadLog,
-}
-
 pub struct Answer {
     pub controller: Controller,
     pub status: Status,
@@ -68,17 +57,6 @@ pub struct Taken {
     pub controller: Controller,
     pub warnings: [Warning; 128],
     pub count: u8,
-}
-
-// Board reset domains. Only the board rail resets the panel.
-pub enum BoardDomain {
-    McuRail,
-    Rtc,
-    BoardRail,
-    Battery,
-    Card,
-    Flash,
-    Host,
 }
 
 pub(crate) fn wide(n: u8) -> usize

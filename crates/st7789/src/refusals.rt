@@ -2,58 +2,18 @@
 ghost use mathlib.Core.Path.{_≡_};
 ghost use Prim.Native.Nat.{_≤_, _<_};
 ghost use lib.ListN.{getD};
+ghost use Rattle.lists.specs.Entries.{some, recordLong};
 ghost use Rattle.lists.specs.Fixed.{used};
 ghost use Rattle.lists.specs.declared.Current.the-variants.{At};
 ghost use Rattle.st7789.specs.Data.{noRecord};
 ghost use Rattle.st7789.specs.Parts.{traceOf};
-ghost use Rattle.st7789.specs.Refusals.{number, some, windowBad, pointerBad, storedLong, recordLong, spanBad, currentBad, badState, pixelsHeld, countHigh, transferRefusal};
+ghost use Rattle.st7789.specs.Refusals.{currentBad, badState, pixelsHeld, countHigh, transferRefusal};
 ghost use Rattle.st7789.specs.Room.{Placed};
+ghost use Rattle.status.specs.Numbers.{number};
 use crate::Controller;
-use crate::Status;
 use crate::wide;
-use geometry::Pointer;
-use geometry::Window;
 use lists::Current;
-use lists::Stored;
-use pixels::Span;
-
-const HIGH: u64 = 0x8000_0000_0000_0000;
-
-fn window_bad(window: Window) -> bool
-    ensures { λ r. ⌜ r ≡ windowBad window ⌝ }
-{
-    (window.xs > 319) | ((window.xe > 319) | ((window.ys > 319) | (window.ye > 319)))
-}
-
-fn pointer_bad(pointer: Pointer) -> bool
-    ensures { λ r. ⌜ r ≡ pointerBad pointer ⌝ }
-{
-    (pointer.x > 319) | (pointer.y > 319)
-}
-
-fn span_bad(dirty: Span) -> bool
-    ensures { λ r. ⌜ r ≡ spanBad dirty ⌝ }
-{
-    match dirty {
-        Span::Nothing => false,
-        Span::Rows(first, last) => (first > last) | (last > 319),
-    }
-}
-
-fn stored_long(stored: [Stored; 12]) -> bool
-    ensures { λ r. ⌜ r ≡ some storedLong stored ⌝ }
-{
-    let mut i = 0;
-    while i < 12 {
-        let entry = stored[i];
-        let params = entry.params;
-        if entry.present & (params.count > 14) {
-            return true;
-        }
-        i += 1;
-    }
-    false
-}
+use status::Status;
 
 impl Controller {
     fn records_long(self) -> bool
@@ -116,9 +76,9 @@ impl Controller {
         let stored = self.stored;
         let marks = self.marks;
         let dirty = marks.dirty;
-        let corners = window_bad(window);
-        let at = pointer_bad(pointer);
-        let lists = stored_long(stored);
+        let corners = geometry::window_bad(window);
+        let at = geometry::pointer_bad(pointer);
+        let lists = lists::stored_long(stored);
         if corners | (at | ((params.count > 14) | lists)) {
             return true;
         }
@@ -126,7 +86,7 @@ impl Controller {
             return true;
         }
         let long = self.records_long();
-        let span = span_bad(dirty);
+        let span = pixels::span_bad(dirty);
         let current = self.current_bad();
         long | (span | current)
     }
@@ -158,10 +118,13 @@ impl Controller {
     {
         let counts = self.counts;
         let held = self.pixel_bytes_held();
-        (counts.commands > HIGH)
-            | ((counts.ramwr_count > HIGH)
-                | ((counts.pixels_written > HIGH)
-                    | ((counts.dropped_params > HIGH) | (held > HIGH))))
+        status::counts_high(
+            counts.commands,
+            counts.ramwr_count,
+            counts.pixels_written,
+            counts.dropped_params,
+            held,
+        )
     }
 
     // Why a transfer with this much memory and this many bytes is refused, or that it is not.
@@ -171,15 +134,7 @@ impl Controller {
         if self.bad_state() {
             return Status::BadState;
         }
-        if cells != 76800 {
-            return Status::BadMemory;
-        }
-        if bytes > 65536 {
-            return Status::TooLong;
-        }
-        if self.count_high() {
-            return Status::CountHigh;
-        }
-        Status::Ok
+        let high = self.count_high();
+        status::transfer_status(cells, bytes, high)
     }
 }

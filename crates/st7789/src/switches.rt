@@ -99,9 +99,8 @@ impl Controller {
     pub fn mark_all_dirty(mut self) -> Controller
         ensures answer { λ r. ⌜ r ≡ allMarked self ⌝ }
     {
-        let marks = Marks {
-            dirty: Span::Rows(0, 319),
-        };
+        let dirty = pixels::all_rows();
+        let marks = Marks { dirty };
         self.marks = marks;
         self
     }

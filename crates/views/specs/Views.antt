@@ -4,8 +4,8 @@ use mathlib.Core.Bool.{Bool, cond, not, _&&_}
 use mathlib.Core.List.{List, [], map}
 use lib.ListN.{length, getD, take, drop}
 use lib.Dec.{ltb, eqb}
-use Rattle.st7789.specs.Refusals.{memoryRefusal}
-use Rattle.st7789.specs.Entries.{unlessRefused}
+use Rattle.status.specs.Tests.{memoryRefusal}
+use Rattle.status.specs.Numbers.{unlessRefused}
 use Rattle.st7789.specs.declared.Controller.{Controller}
 use Rattle.views.specs.Light.{lightOf, viewed}
 use Rattle.views.specs.declared.FrameView.{FrameView}

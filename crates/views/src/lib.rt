@@ -4,11 +4,12 @@ ghost use mathlib.Core.Bool.{Bool·beq};
 ghost use mathlib.Core.List.{map};
 ghost use Prim.Native.Nat.{_-_, _*_, _/_, _%_, _^_, _≤_, _<_};
 ghost use lib.ListN.{length};
-ghost use Rattle.st7789.specs.Refusals.{number, memoryRefusal};
+ghost use Rattle.status.specs.Tests.{memoryRefusal};
+ghost use Rattle.status.specs.Numbers.{number};
 ghost use Rattle.views.specs.Light.{scaled, dimmed, lightOf, glassOf, viewed};
 ghost use Rattle.views.specs.Views.{pixelSeen, frameRefusal, frameSeen, rowSeen};
 use st7789::Controller;
-use st7789::Status;
+use status::Status;
 
 const PANEL_PIXELS: usize = 76800;
 

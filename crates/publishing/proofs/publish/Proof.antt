@@ -1,4 +1,4 @@
-use Rattle.st7789.specs.declared.Status.the-variants.{Ok}
+use Rattle.status.specs.declared.Status.the-variants.{Ok}
 use mathlib.Core.Path.{refl, sym, _∙_}
 use Rattle.publishing.proofs.Refusing.{span-fine, bad, bad-cells, bad-room, none-bad, all-kept, all-given}
 use borrow.Author.Needs.{needs}

@@ -1,4 +1,4 @@
-use Rattle.st7789.proofs.Accepted.{bad-memory, memory-kept, good-memory, memory-taken}
+use Rattle.status.proofs.Memory.{bad-memory, memory-kept, good-memory, memory-taken}
 use Rattle.views.specs.Views.{pixelSeen}
 use Rattle.views.proofs.Filling.{seen-inside, seen-below, seen-beside}
 use borrow.Author.Needs.{needs}

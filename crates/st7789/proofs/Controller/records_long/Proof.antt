@@ -10,8 +10,8 @@ use Rattle.lists.proofs.TraceRecord as traceRecord
 use Rattle.lists.specs.declared.TraceRecord.{TraceRecord}
 use Rattle.st7789.specs.Data.{noRecord}
 use Rattle.st7789.specs.Parts.{traceOf}
-use Rattle.st7789.specs.Refusals.{recordLong}
-use Rattle.st7789.proofs.Lists.{unmapped, Scan, scan-first, found, scan-next, ended}
+use Rattle.lists.specs.Entries.{recordLong}
+use Rattle.lists.proofs.Scanning.{unmapped, Scan, scan-first, found, scan-next, ended}
 use Rattle.st7789.proofs.Controller.records_long.Statement.{statement}
 use Rattle.st7789.proofs.Controller.records_long.Tie as tie
 

@@ -1,7 +1,7 @@
 use Rattle.st7789.proofs.Datas.{not-stored}
 use Rattle.lists.proofs.Stored as stored
 use Rattle.lists.specs.declared.Stored.{Stored}
-use Rattle.st7789.proofs.Lists.{unmapped}
+use Rattle.lists.proofs.Scanning.{unmapped}
 use borrow.Author.Needs.{needs}
 use Rattle.st7789.proofs.Controller.store.Statement.{statement}
 use Rattle.st7789.proofs.Controller.store.Tie as tie

@@ -16,13 +16,13 @@ trace-params-requires : tie.Need-trace-params-requires
 trace-params-requires c κs = search needs
 
 add-dropped : tie.Need-add-dropped
-add-dropped c = dropped-fit _ (c .before .before .before .before .before .before .before .before .before .args .bytes .now) _ _ _ (c .before .before .before .before .before .before .before .before .before .pre) (c .before .before .before .before .excess .ensures .1) (c .before .trace-params .ensures)
+add-dropped c = dropped-fit _ (c .before .before .before .before .before .before .before .before .before .args .bytes .now) _ _ _ (c .before .before .before .before .before .before .before .before .before .pre) (c .before .before .before .before .excess .ensures) (c .before .trace-params .ensures)
 
 store-requires : tie.Need-store-requires
 store-requires c κs = search needs
 
 returns : tie.Need-returns
-returns c = params-put _ _ _ _ _ _ _ _ (c .before .before .before .before .before .before .excess .ensures .0) (c .before .before .before .before .before .append .ensures) (c .before .before .before .before .take .ensures) (c .before .before .before .trace-params .ensures) (c .store .ensures)
+returns c = params-put _ _ _ _ _ _ _ _ (c .before .before .before .before .before .before .excess .ensures) (c .before .before .before .before .before .append .ensures) (c .before .before .before .before .take .ensures) (c .before .before .before .trace-params .ensures) (c .store .ensures)
 
 pub take-params-spec : {M : Type 1} → statement M
 take-params-spec =

@@ -20,19 +20,26 @@ pub enum Status {
     BadLog,
 }
 
+// 01's number of a status.
+pub fn number(status: Status) -> u64
+    ensures answer { λ r. ⌜ r ≡ number status ⌝ }
+{
+    match status {
+        Status::Ok => 0,
+        Status::BadState => 1,
+        Status::BadMemory => 2,
+        Status::BadFrame => 3,
+        Status::TooLong => 4,
+        Status::CountHigh => 5,
+        Status::LogLong => 6,
+        Status::BadLog => 7,
+    }
+}
+
 pub fn accepted(status: Status) -> bool
     ensures answer { λ r. ⌜ r ≡ eqb (number status) 0 ⌝ }
 {
-    match status {
-        Status::Ok => true,
-        Status::BadState => false,
-        Status::BadMemory => false,
-        Status::BadFrame => false,
-        Status::TooLong => false,
-        Status::CountHigh => false,
-        Status::LogLong => false,
-        Status::BadLog => false,
-    }
+    number(status) == 0
 }
 
 // COUNT_HIGH: whether one of these is above 2^63.

@@ -1,0 +1,5 @@
+pub mod Calls
+pub mod Steps
+pub mod Judging
+pub mod Fronts
+pub mod Matches

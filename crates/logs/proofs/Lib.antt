@@ -1,0 +1,12 @@
+pub mod Cuts
+pub mod Bytes
+pub mod Numbers
+pub mod Records
+pub mod Checking
+pub mod Heads
+pub mod Walks
+pub mod Stored
+pub mod Readback
+pub mod Bounds
+pub mod Offsets
+pub mod Examples

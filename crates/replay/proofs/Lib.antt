@@ -1,0 +1,3 @@
+pub mod Running
+pub mod Printing
+pub mod Unrefused

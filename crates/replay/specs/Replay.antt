@@ -1,0 +1,26 @@
+-- Document 01, "The log and its program".
+use Prim.Native.Nat.{ℕ}
+use mathlib.Core.Bool.{true}
+use mathlib.Core.List.{List, [], _∷_, foldl}
+use Rattle.status.specs.Numbers.{unlessRefused}
+use Rattle.logs.specs.Log.{Segment, segments, logRefusal, badOffset}
+use Rattle.st7789.specs.Entries.{freshController, bareTransferred}
+use Rattle.st7789.specs.declared.Controller.{Controller}
+use Rattle.lines.specs.Lines.{ascii, line}
+use Rattle.report.specs.Report.{report}
+
+-- One record of the log as a transfer without memory.
+abbrev pub sent : Controller → Segment → Controller
+sent s r = bareTransferred (r .time) (r .dc) (r .bytes) (r .release) s
+
+-- "on a fresh panel without memory"; "the switch as asked (true in a log)"
+unfoldable pub replayed : List ℕ → Controller
+replayed log = foldl sent (freshController true) (segments log)
+
+-- "The log is checked whole before any record runs": a refused log leaves a fresh panel.
+abbrev pub replayedIfGood : List ℕ → Controller
+replayedIfGood log = unlessRefused (logRefusal log) (replayed log) (freshController true)
+
+-- "A refusal prints `refused N P` (P the offset, 0 for LOG_LONG)."
+unfoldable pub printed : List ℕ → List ℕ
+printed log = unlessRefused (logRefusal log) (report (replayed log)) (line (ascii "refused") (logRefusal log ∷ badOffset log ∷ []))

@@ -4,6 +4,7 @@ use mathlib.Core.Bool.{true}
 use Rattle.geometry.specs.Place.{mapOf, outcome, next}
 use Rattle.pixels.specs.Run.{stores, walkAfter, pixelsCounted}
 use Rattle.lists.specs.Params.{filled, differ}
+use Rattle.boot.specs.Boot.{fits, comparedFrom}
 use Rattle.timing.specs.Lint.{brokenBy, timesAfter}
 use Rattle.chip.specs.Begin.{freshChip, chipBegun, chipReleased}
 use Rattle.chip.specs.Apply.{appliedIfDue, chipTaken}
@@ -15,7 +16,7 @@ use Rattle.laws.specs.Examples.{rows, allPass}
 use Rattle.laws.specs.Cases.{cases, allGiven}
 
 pub all-pass : allPass rows ≡ true
-unfolding rows mapOf outcome next stores walkAfter pixelsCounted filled differ brokenBy timesAfter freshChip chipBegun chipReleased appliedIfDue chipTaken begun released ran taken badState countHigh transferRefusal freshController moved transferred transferMemory
+unfolding rows fits comparedFrom mapOf outcome next stores walkAfter pixelsCounted filled differ brokenBy timesAfter freshChip chipBegun chipReleased appliedIfDue chipTaken begun released ran taken badState countHigh transferRefusal freshController moved transferred transferMemory
 all-pass = refl
 
 pub all-given : allGiven cases ≡ true

@@ -4,7 +4,11 @@ use mathlib.Core.Bool.{Bool, true, false, not, _&&_}
 use mathlib.Core.List.{List, [], _∷_, _++_, foldl, map}
 use lib.ListN.{length, getD, take, replicate}
 use lib.Dec.{eqb}
+use Rattle.lists.specs.Fixed.{used}
 use Rattle.lists.specs.Params.{listed, sameNumbers}
+use Rattle.boot.specs.Boot.{bootSequence, compared, stepOf}
+use Rattle.boot.specs.declared.BootStep.{BootStep}
+use Rattle.st7789.specs.Parts.{traceOf}
 use Rattle.lists.specs.declared.Stored.{Stored}
 use Rattle.lists.specs.declared.Current.{Current}
 use Rattle.lists.specs.declared.Current.the-variants.{Nothing, At}
@@ -69,57 +73,14 @@ isNone (At i) = false
 abbrev pub ms : ℕ → ℕ
 ms n = n * 1000000
 
--- The boot rows of the Rust's BOOT_SEQUENCE: time by the delays before it in ms, command, parameters.
-pub record Step : Type 0 where
-  pub at : ℕ
-  pub cmd : ℕ
-  pub params : List ℕ
+-- The boot rows as calls, each row at the delays of those before it, in milliseconds.
+abbrev pub dataOf : List ℕ → List Call
+dataOf [] = []
+dataOf (b ∷ bs) = segment (b ∷ bs) ∷ []
 
-abbrev pub sent : Step → List Call
-sent s = send (s .params)
-  where
-    send : List ℕ → List Call
-    send [] = order (ms (s .at)) (s .cmd ∷ []) ∷ []
-    send (b ∷ bs) = order (ms (s .at)) (s .cmd ∷ []) ∷ segment (b ∷ bs) ∷ []
-
-abbrev pub sentAll : List Step → List Call
-sentAll [] = []
-sentAll (s ∷ ss) = sent s ++ sentAll ss
-
-abbrev pub boot : List Step
-boot =
-    record { at = 0; cmd = 0x01; params = [] }
-    ∷ record { at = 20; cmd = 0x11; params = [] }
-    ∷ record { at = 120; cmd = 0x36; params = 0x00 ∷ [] }
-    ∷ record { at = 120; cmd = 0x3A; params = 0x55 ∷ [] }
-    ∷ record { at = 120; cmd = 0xB0; params = 0x00 ∷ 0xF0 ∷ [] }
-    ∷ record { at = 120; cmd = 0xB2; params = 0x05 ∷ 0x05 ∷ 0x00 ∷ 0x33 ∷ 0x33 ∷ [] }
-    ∷ record { at = 120; cmd = 0xB7; params = 0x35 ∷ [] }
-    ∷ record { at = 120; cmd = 0xBB; params = 0x21 ∷ [] }
-    ∷ record { at = 120; cmd = 0xC0; params = 0x2C ∷ [] }
-    ∷ record { at = 120; cmd = 0xC2; params = 0x01 ∷ [] }
-    ∷ record { at = 120; cmd = 0xC3; params = 0x0B ∷ [] }
-    ∷ record { at = 120; cmd = 0xC4; params = 0x20 ∷ [] }
-    ∷ record { at = 120; cmd = 0xC6; params = 0x0F ∷ [] }
-    ∷ record { at = 120; cmd = 0xD0; params = 0xA7 ∷ 0xA1 ∷ [] }
-    ∷ record { at = 120; cmd = 0xD0; params = 0xA4 ∷ 0xA1 ∷ [] }
-    ∷ record { at = 120; cmd = 0xD6; params = 0xA1 ∷ [] }
-    ∷ record {
-      at = 120;
-      cmd = 0xE0;
-      params = 0xD0 ∷ 0x04 ∷ 0x08 ∷ 0x0A ∷ 0x09 ∷ 0x05 ∷ 0x2D ∷ 0x43 ∷ 0x49 ∷ 0x09 ∷ 0x16 ∷ 0x15 ∷ 0x26 ∷ 0x2B ∷ [];
-    }
-    ∷ record {
-      at = 120;
-      cmd = 0xE1;
-      params = 0xD0 ∷ 0x03 ∷ 0x09 ∷ 0x0A ∷ 0x0A ∷ 0x06 ∷ 0x2E ∷ 0x44 ∷ 0x40 ∷ 0x3A ∷ 0x15 ∷ 0x15 ∷ 0x26 ∷ 0x2A ∷ [];
-    }
-    ∷ record { at = 130; cmd = 0x21; params = [] }
-    ∷ record { at = 130; cmd = 0x36; params = 0x00 ∷ [] }
-    ∷ record { at = 130; cmd = 0x29; params = [] }
-    ∷ record { at = 130; cmd = 0x36; params = 0x00 ∷ [] }
-    ∷ record { at = 130; cmd = 0x36; params = 0x00 ∷ [] }
-    ∷ []
+abbrev pub sentFrom : ℕ → List BootStep → List Call
+sentFrom at [] = []
+sentFrom at (s ∷ steps) = order (ms at) (s .cmd ∷ []) ∷ (dataOf (listed (s .params)) ++ sentFrom (at + s .«delay_ms_after») steps)
 
 -- "after that 11": SLPOUT at 200 ms.
 abbrev pub woken : Call
@@ -157,10 +118,12 @@ rows =
     ∷ record { calls = woken ∷ order (ms 320) (0x10 ∷ []) ∷ []; passes = warns [] }
     -- P10: after that 11, 10 at 203 ms: rules 1 and 2
     ∷ record { calls = woken ∷ order (ms 203) (0x10 ∷ []) ∷ []; passes = warns (1 ∷ 2 ∷ []) }
-    -- The boot rows at their delays from 0: one warning, rule 2 at 20 ms; D0 holds A4 A1
+    -- The boot rows at their delays from 0: one warning, rule 2 at 20 ms; comparison matches; D0 holds A4 A1
     ∷ record {
-      calls = sentAll boot;
-      passes = λ p. warns (2 ∷ []) p && warnsAt (ms 20 ∷ []) p && holds 8 (0xA4 ∷ 0xA1 ∷ []) p;
+      calls = sentFrom 0 bootSequence;
+      passes = λ p.
+          warns (2 ∷ []) p && warnsAt (ms 20 ∷ []) p && eqb (stepOf (compared (used (traceOf (p .controller))) .check)) 0
+          && holds 8 (0xA4 ∷ 0xA1 ∷ []) p;
     }
     -- The 129th command works and isn't traced
     ∷ record {

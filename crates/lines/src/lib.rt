@@ -30,11 +30,11 @@ pub fn put_hex_bytes(out: &mut [u8], at: usize, bytes: &[u8]) -> usize
     ensures lent { λ r. ⌜ now (out .exit) ≡ appended (now (out .entry)) at (hexBytes (now (bytes .entry))) .places ⌝ }
 {
     let mut used = at;
-    let mut i = 0;
-    while i < bytes.len() {
+    let mut k = 0;
+    while k < bytes.len() {
         used = text::put_byte(out, used, b' ');
-        used = text::put_hex(out, used, wide(bytes[i]), 2);
-        i += 1;
+        used = text::put_hex(out, used, wide(bytes[k]), 2);
+        k += 1;
     }
     used
 }

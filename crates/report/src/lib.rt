@@ -190,6 +190,6 @@ pub fn write_report(controller: Controller, out: &mut [u8]) -> usize
     let told = put_chip(out, 0, chip, counts, warned);
     let marked = put_dirty(out, told, dirty);
     let booted = put_boot(out, marked, check);
-    let warned_of = put_warnings(out, booted, warnings, warned);
-    put_trace(out, warned_of, records, traced)
+    let listed = put_warnings(out, booted, warnings, warned);
+    put_trace(out, listed, records, traced)
 }

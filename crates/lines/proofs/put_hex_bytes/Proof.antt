@@ -10,10 +10,10 @@ use Rattle.lines.proofs.put_hex_bytes.Statement.{statement}
 use Rattle.lines.proofs.put_hex_bytes.Tie as tie
 
 abbrev Inv-loop : tie.InvT-loop
-Inv-loop out₀ at bytes used₀ i₀ out used i = Writing hexByte bytes out₀ at out used i
+Inv-loop out₀ at bytes used₀ k₀ out used k = Writing hexByte bytes out₀ at out used k
 
 abbrev μ-loop : tie.MeasureT-loop
-μ-loop out₀ at bytes used₀ i₀ out used i = length bytes - i
+μ-loop out₀ at bytes used₀ k₀ out used k = length bytes - k
 
 loop-holds : tie.Need-loop-holds Inv-loop μ-loop
 loop-holds c = writing-first
@@ -30,8 +30,8 @@ wide-requires c κs = search needs
 put-hex-requires : tie.Need-put-hex-requires Inv-loop μ-loop
 put-hex-requires c κs = search needs
 
-add-i : tie.Need-add-i Inv-loop μ-loop
-add-i c = search needs
+add-k : tie.Need-add-k Inv-loop μ-loop
+add-k c = search needs
 
 loop-less : tie.Need-loop-less Inv-loop μ-loop
 loop-less c = search needs
@@ -56,7 +56,7 @@ put-hex-bytes-spec =
     shared-slice-read-wide
     wide-requires
     put-hex-requires
-    add-i
+    add-k
     loop-less
     loop-again
     same-length

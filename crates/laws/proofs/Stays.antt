@@ -14,7 +14,7 @@ use Rattle.pixels.specs.Run.{stores, marked, walkAfter}
 use Rattle.pixels.specs.declared.Span.{Span}
 use Rattle.pixels.specs.declared.Span.the-variants.{Rows}
 use Rattle.pixels.proofs.Bounds.{walk-within, Ordered, span-ordered}
-use Rattle.lists.specs.Fixed.{pushAll}
+use Rattle.lists.specs.Fixed.{Fixed, used, pushAll}
 use Rattle.lists.specs.Params.{noParams, filled, differ, tooLong}
 use Rattle.lists.specs.declared.Params.{Params}
 use Rattle.lists.specs.declared.TraceRecord.{TraceRecord}
@@ -30,7 +30,7 @@ use Rattle.chip.specs.declared.InForce.{InForce}
 use Rattle.chip.specs.declared.InForce.the-variants.{Code}
 use Rattle.chip.proofs.Bounds.{ChipWithin, begun-within, released-within, taken-within}
 use Rattle.lists.proofs.Bools.{neither}
-use Rattle.lists.specs.Entries.{placeOf, storedLong, recordLong}
+use Rattle.lists.specs.Entries.{some, placeOf, storedLong, recordLong}
 use Rattle.geometry.specs.Bounds.{windowBad, pointerBad}
 use Rattle.pixels.specs.Spans.{spanBad}
 use Rattle.st7789.specs.Parts.{traceOf, warningsOf, withChip, withCounts, withTrace}
@@ -110,6 +110,28 @@ module _ (c t : ℕ) (s : Controller) (g : Good s) where
   within : ChipWithin (chipBegun c t (s .chip))
   within = begun-within c t (s .chip) (chip-within s (g .fine))
 
+  -- What the command's own parts leave good, whatever list the trace becomes.
+  begun-parts :
+      (f : Fixed TraceRecord) (k : Current) → Sized (withTrace f k (decoded c t s)) → countBad (f .count) ≡ false →
+      some recordLong (used f) ≡ false → currentBad k (withTrace f k (decoded c t s)) ≡ false → Good (withTrace f k (decoded c t s))
+  unfolding chipBegun
+  begun-parts f k sized traced records current =
+      record {
+        sized = sized;
+        fine =
+            record {
+              window = within-window (chipBegun c t (s .chip) .window) (within .window);
+              pointer = within-pointer (chipBegun c t (s .chip) .walk .pointer) (within .pointer);
+              params = refl;
+              stored = g .fine .stored;
+              traced = traced;
+              warned = few-warnings c t s (g .fine);
+              records = records;
+              span = g .fine .span;
+              current = current;
+            };
+      }
+
   begun-with :
       (b : Bool) → ltb (s .logs .traced) 128 ≡ b →
       Good
@@ -118,42 +140,20 @@ module _ (c t : ℕ) (s : Controller) (g : Good s) where
   unfolding chipBegun
   begun-with true e =
       let free = ltb-true (s .logs .traced) 128 e in
-      record {
-        sized =
-            record {
-              records = length-set (s .records) (s .logs .traced) (begunRecord c t) ∙ g .sized .records;
-              bytes = refl;
-              each = roomy-set (s .records) (s .logs .traced) (begunRecord c t) (g .sized .records) refl (g .sized .each);
-            };
-        fine =
-            record {
-              window = within-window (chipBegun c t (s .chip) .window) (within .window);
-              pointer = within-pointer (chipBegun c t (s .chip) .walk .pointer) (within .pointer);
-              params = refl;
-              stored = g .fine .stored;
-              traced = le-ltb 128 (s .logs .traced + 1) (omega arith);
-              warned = few-warnings c t s (g .fine);
-              records = pushed-short (s .records) (s .logs .traced) (begunRecord c t) (g .sized .records) free (g .fine .records) refl;
-              span = g .fine .span;
-              current = pushed-current (s .records) (s .logs .traced) (begunRecord c t) (g .sized .records) free noParams no-params-same;
-            };
-      }
+      begun-parts
+      (record { count = s .logs .traced + 1; places = set (s .records) (s .logs .traced) (begunRecord c t) })
+      (At (s .logs .traced))
+      (record {
+        records = length-set (s .records) (s .logs .traced) (begunRecord c t) ∙ g .sized .records;
+        bytes = refl;
+        each = roomy-set (s .records) (s .logs .traced) (begunRecord c t) (g .sized .records) refl (g .sized .each);
+      })
+      (le-ltb 128 (s .logs .traced + 1) (omega arith))
+      (pushed-short (s .records) (s .logs .traced) (begunRecord c t) (g .sized .records) free (g .fine .records) refl)
+      (pushed-current (s .records) (s .logs .traced) (begunRecord c t) (g .sized .records) free noParams no-params-same)
   begun-with false e =
-      record {
-        sized = record { records = g .sized .records; bytes = refl; each = g .sized .each };
-        fine =
-            record {
-              window = within-window (chipBegun c t (s .chip) .window) (within .window);
-              pointer = within-pointer (chipBegun c t (s .chip) .walk .pointer) (within .pointer);
-              params = refl;
-              stored = g .fine .stored;
-              traced = g .fine .traced;
-              warned = few-warnings c t s (g .fine);
-              records = g .fine .records;
-              span = g .fine .span;
-              current = refl;
-            };
-      }
+      begun-parts (traceOf s) Nothing (record { records = g .sized .records; bytes = refl; each = g .sized .each }) (g .fine .traced)
+      (g .fine .records) refl
 
   pub begun-good : Good (begun c t s)
   unfolding begun

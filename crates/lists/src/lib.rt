@@ -1,6 +1,6 @@
 // Fixed lists and their entries: a command's parameters, the stored commands, the trace and the warnings.
 ghost use mathlib.Core.Path.{_≡_};
-ghost use Prim.Native.Nat.{_-_, _≤_, min};
+ghost use Prim.Native.Nat.{_-_, min};
 ghost use Rattle.lists.specs.Entries.{some, storedLong, placeOf};
 ghost use Rattle.lists.specs.Params.{noParams, filled, excess, differ};
 

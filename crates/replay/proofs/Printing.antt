@@ -4,7 +4,6 @@ use mathlib.Core.Path.{_≡_, sym, ap, ap₂, _∙_}
 use mathlib.Core.Bool.{Bool, true, false, cond}
 use mathlib.Core.List.{List, [], _∷_}
 use lib.Dec.{eqb}
-use Rattle.status.specs.Numbers.{unlessRefused}
 use Rattle.logs.specs.Log.{logRefusal, badOffset}
 use Rattle.st7789.specs.Entries.{freshController}
 use Rattle.st7789.specs.declared.Controller.{Controller}

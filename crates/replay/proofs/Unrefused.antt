@@ -1,8 +1,9 @@
 -- Within a log no transfer is refused, so that an accepted log is replayed as exactly its transfers.
 use Prim.Native.Nat.{ℕ, _+_, _^_, _≤_}
 use mathlib.Core.Path.{_≡_, refl, sym, ap, subst, _∙_}
-use mathlib.Core.Bool.{Bool, true, false, cond, _||_}
+use mathlib.Core.Bool.{Bool, true, false, cond}
 use mathlib.Core.List.{List, [], _∷_, foldl}
+use native.Mathlib.Nat.{zero-add}
 use native.Mathlib.Omega.{arith}
 use borrow.Author.Tests.{le-ltb}
 use lib.Dec.{eqb}
@@ -12,12 +13,15 @@ use Rattle.status.specs.Numbers.{unlessRefused}
 use Rattle.logs.specs.Log.{Segment, segments, logOf, logRefusal, badOffset}
 use Rattle.logs.proofs.Bounds.{accepted, total, total-within}
 use Rattle.logs.proofs.Stored.{Each, Storable, segments-stored, stored-accepted}
-use Rattle.st7789.specs.Refusals.{badState, pixelsHeld, countHigh, bareRefusal}
+use Rattle.st7789.specs.Refusals.{pixelsHeld, countHigh, bareRefusal}
 use Rattle.st7789.specs.Entries.{freshController, moved, bareTransferred}
 use Rattle.st7789.specs.declared.Controller.{Controller}
 use Rattle.laws.proofs.Stays.{Good, moved-good}
 use Rattle.laws.proofs.Reach.{good-not-bad, fresh-good, bare-good}
 use Rattle.laws.proofs.Counts.{moved-grown}
+use Rattle.lists.specs.Fixed.{used}
+use Rattle.text.specs.Text.{appended}
+use Rattle.text.proofs.Text.{count-room, used-room}
 use Rattle.report.specs.Report.{report}
 use Rattle.report.proofs.Room.{line-most, report-most}
 use Rattle.lines.specs.Lines.{ascii, line}
@@ -134,3 +138,11 @@ printed-most log = go (eqb (logRefusal log) 0)
     go : (b : Bool) → length (cond b (report (replayed log)) (line (ascii "refused") (logRefusal log ∷ badOffset log ∷ []))) ≤ 17801
     go true = report-most (replayed log) (good-not-bad (replayed log) (good-replayed log))
     go false = let h = line-most (ascii "refused") (logRefusal log ∷ badOffset log ∷ []) in omega arith
+
+-- So a buffer of that room holds the whole text, and the answer is its length.
+pub all-printed :
+    (out log : List ℕ) → 17801 ≤ length out →
+    (used (appended out 0 (printed log)) ≡ printed log) × (appended out 0 (printed log) .count ≡ length (printed log))
+all-printed out log h =
+    let n : 0 + length (printed log) ≤ length out = omega (arith, printed-most log) in
+    (used-room out 0 (printed log) n, count-room out 0 (printed log) n ∙ zero-add (length (printed log)))

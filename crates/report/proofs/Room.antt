@@ -1,8 +1,8 @@
 -- How long the report can get: 17,801 bytes hold it in every state that is not bad.
 use Prim.Native.Nat.{ℕ, _+_, _*_, _≤_}
-use mathlib.Core.Path.{_≡_, refl}
-use mathlib.Core.Bool.{Bool, false}
-use mathlib.Core.List.{List, [], _∷_, _++_}
+use mathlib.Core.Path.{_≡_}
+use mathlib.Core.Bool.{false}
+use mathlib.Core.List.{List, [], _∷_}
 use native.Mathlib.Nat.{mul-suc}
 use native.Mathlib.Omega.{arith}
 use borrow.Author.Tests.{ltb-false}
@@ -12,14 +12,12 @@ use Rattle.geometry.specs.declared.Pointer.{Pointer}
 use Rattle.pixels.specs.declared.Span.{Span}
 use Rattle.pixels.specs.declared.Span.the-variants.{Nothing, Rows}
 use Rattle.lists.specs.Fixed.{used}
-use Rattle.lists.specs.Params.{tooLong, listed}
+use Rattle.lists.specs.Params.{listed}
 use Rattle.lists.specs.Entries.{some, recordLong}
-use Rattle.lists.specs.declared.Params.{Params}
 use Rattle.lists.specs.declared.TraceRecord.{TraceRecord}
 use Rattle.lists.specs.declared.Warning.{Warning}
 use Rattle.lists.proofs.Bools.{neither}
 use Rattle.chip.specs.declared.Registers.{Registers}
-use Rattle.chip.specs.declared.Chip.{Chip}
 use Rattle.st7789.specs.Parts.{traceOf, warningsOf}
 use Rattle.st7789.specs.Refusals.{badState}
 use Rattle.st7789.specs.declared.Counts.{Counts}
@@ -30,7 +28,7 @@ use Rattle.boot.specs.declared.BootCheck.{BootCheck}
 use Rattle.boot.specs.declared.BootCheck.the-variants.{Match, Differs, Missing}
 use Rattle.text.proofs.Meaning.{decimal-most, length-hex}
 use Rattle.text.specs.Numbers.{decimal, hexDigits}
-use Rattle.lines.specs.Lines.{ascii, texts, number, hexByte, numbers, hexBytes, newline, line}
+use Rattle.lines.specs.Lines.{ascii, texts, number, hexByte, numbers, hexBytes, line}
 use Rattle.report.specs.Report.{flag, regsLine, winLine, cntLine, dirtyLine, bootLine, warningLine, traceLine, chipLines, report}
 
 -- Entries of at most k bytes each.

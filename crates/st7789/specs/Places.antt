@@ -1,0 +1,26 @@
+-- How the code looks at the current record: at a place that the list always has, and by what stands there.
+use Prim.Native.Nat.{ℕ, _+_}
+use mathlib.Core.Bool.{Bool, false, cond, not, _||_}
+use lib.Dec.{ltb, eqb}
+use Rattle.lists.specs.Params.{differ}
+use Rattle.lists.specs.declared.Params.{Params}
+use Rattle.lists.specs.declared.Current.{Current}
+use Rattle.lists.specs.declared.Current.the-variants.{Nothing, At}
+
+-- The place of entry n, the first one where there is none.
+abbrev pub slotOf : ℕ → ℕ
+slotOf n = cond (ltb n 128) n 0
+
+abbrev pub currentSlot : Current → ℕ
+currentSlot Nothing = 0
+currentSlot (At i) = slotOf i
+
+-- Whether the record is not the last of n, or its parameters p differ from those in force, q.
+abbrev pub wrongFor : Current → ℕ → Params → Params → Bool
+wrongFor Nothing n p q = false
+wrongFor (At i) n p q = not (eqb (i + 1) n) || differ p q
+
+-- The pixel bytes n of the record that stands at the place, 0 where none is current.
+abbrev pub heldFor : Current → ℕ → ℕ
+heldFor Nothing n = 0
+heldFor (At i) n = n

@@ -5,14 +5,15 @@ use mathlib.Core.Bool.{Bool, true, false, not, _||_}
 use mathlib.Core.List.{List}
 use native.Mathlib.Omega.{arith}
 use borrow.Author.Tests.{lt-ltb, eqb-true}
-use lib.ListN.{getD}
+use lib.ListN.{getD, set}
+use lib.Seq.{set-getD}
 use lib.Dec.{eqb}
 use Rattle.lists.specs.Params.{differ}
 use Rattle.lists.specs.declared.TraceRecord.{TraceRecord}
 use Rattle.lists.specs.declared.Current.{Current}
 use Rattle.lists.specs.declared.Current.the-variants.{Nothing, At}
-use Rattle.st7789.specs.Data.{noRecord}
-use Rattle.st7789.specs.Places.{slotOf, currentSlot, wrongFor, heldFor}
+use Rattle.st7789.specs.Data.{noRecord, onCurrent}
+use Rattle.st7789.specs.Places.{slotOf, currentSlot, wrongFor, heldFor, ifCurrent}
 use Rattle.st7789.specs.Refusals.{currentBad, pixelsHeld}
 use Rattle.st7789.specs.Room.{Placed}
 use Rattle.st7789.specs.declared.Controller.{Controller}
@@ -43,3 +44,10 @@ pub held-here :
     heldFor k (getD records at noRecord .«pixel_bytes») ≡ pixelsHeld k records
 held-here Nothing records at h e = refl
 held-here (At i) records at h e = ap (λ j. getD records j noRecord .«pixel_bytes») (e ∙ slot-here i h)
+
+-- What stands at the place is stored back, changed where it is current.
+pub put-here :
+    (f : TraceRecord → TraceRecord) (k : Current) (records : List TraceRecord) (at : ℕ) (r : TraceRecord) → Placed k → at ≡ currentSlot k →
+    r ≡ ifCurrent f k (getD records at noRecord) → set records at r ≡ onCurrent f k records
+put-here f Nothing records at r h e er = ap (set records at) er ∙ set-getD records at noRecord
+put-here f (At i) records at r h e er = ap (set records at) er ∙ ap (λ j. set records j (f (getD records j noRecord))) (e ∙ slot-here i h)

@@ -4,6 +4,7 @@ use mathlib.Core.Bool.{Bool, false, cond, not, _||_}
 use lib.Dec.{ltb, eqb}
 use Rattle.lists.specs.Params.{differ}
 use Rattle.lists.specs.declared.Params.{Params}
+use Rattle.lists.specs.declared.TraceRecord.{TraceRecord}
 use Rattle.lists.specs.declared.Current.{Current}
 use Rattle.lists.specs.declared.Current.the-variants.{Nothing, At}
 
@@ -24,3 +25,8 @@ wrongFor (At i) n p q = not (eqb (i + 1) n) || differ p q
 abbrev pub heldFor : Current → ℕ → ℕ
 heldFor Nothing n = 0
 heldFor (At i) n = n
+
+-- The record that stands at the place, changed where it is current.
+abbrev pub ifCurrent : (TraceRecord → TraceRecord) → Current → TraceRecord → TraceRecord
+ifCurrent f Nothing r = r
+ifCurrent f (At i) r = f r

@@ -1,10 +1,12 @@
-// The current record, judged by what stands at its place.
+// The current record, judged and changed by what stands at its place.
 ghost use mathlib.Core.Path.{_≡_};
-ghost use Prim.Native.Nat.{_<_};
-ghost use Rattle.st7789.specs.Places.{slotOf, currentSlot, wrongFor, heldFor};
+ghost use Prim.Native.Nat.{_+_, _^_, _<_};
+ghost use Rattle.st7789.specs.Data.{morePixels, moreParams};
+ghost use Rattle.st7789.specs.Places.{slotOf, currentSlot, wrongFor, heldFor, ifCurrent};
 use crate::wide;
 use lists::Current;
 use lists::Params;
+use lists::TraceRecord;
 
 // The place of entry n, the first one where there is none.
 pub(crate) fn slot(n: u8) -> usize
@@ -48,5 +50,33 @@ pub(crate) fn held(current: Current, pixel_bytes: u64) -> u64
     match current {
         Current::Nothing => 0,
         Current::At(i) => pixel_bytes,
+    }
+}
+
+// The record with n more pixel bytes, where it is current.
+pub(crate) fn grown(current: Current, old: TraceRecord, n: u64) -> TraceRecord
+    requires { ⌜ heldFor current (old .«pixel_bytes») + n < 2 ^ 64 ⌝ }
+    ensures { λ r. ⌜ r ≡ ifCurrent (morePixels n) current old ⌝ }
+{
+    match current {
+        Current::Nothing => old,
+        Current::At(i) => TraceRecord {
+            pixel_bytes: old.pixel_bytes + n,
+            ..old
+        },
+    }
+}
+
+// The record with the bytes that its parameters have room for, where it is current.
+pub(crate) fn noted(current: Current, old: TraceRecord, bytes: &[u8]) -> TraceRecord
+    ensures { λ r. ⌜ r ≡ ifCurrent (moreParams (now (bytes .entry))) current old ⌝ }
+{
+    match current {
+        Current::Nothing => old,
+        Current::At(i) => {
+            let listed = old.params;
+            let params = listed.append(bytes);
+            TraceRecord { params, ..old }
+        }
     }
 }

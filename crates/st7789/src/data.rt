@@ -1,83 +1,47 @@
 // Data: pixels of a run, parameters of a command, or lost.
 ghost use mathlib.Core.Path.{_≡_};
-ghost use mathlib.Core.Bool.{true};
-ghost use Prim.Native.Nat.{_+_, _^_, _<_};
-ghost use lib.ListN.{length, getD, set};
+ghost use mathlib.Core.Bool.{true, cond};
+ghost use Prim.Native.Nat.{_<_};
+ghost use lib.ListN.{length};
+ghost use lib.Dec.{ltb};
 ghost use Rattle.pixels.specs.Run.{stores, written};
-ghost use Rattle.st7789.specs.Data.{noRecord, onCurrent, withRecords, morePixels, moreParams, storedAfter, ran, taken, dataIn, storesIn};
-ghost use Rattle.st7789.specs.Parts.{withStored};
-ghost use Rattle.st7789.specs.Refusals.{pixelsHeld};
-ghost use Rattle.st7789.specs.Room.{Placed, Room};
+ghost use Rattle.st7789.specs.Data.{ran, taken, dataIn, storesIn};
+ghost use Rattle.st7789.specs.Room.{Room};
 use crate::Controller;
 use crate::Marks;
-use crate::wide;
+use crate::current::grown;
+use crate::current::noted;
+use crate::current::place;
 use chip::InForce;
-use lists::Current;
 use lists::Params;
 use lists::Stored;
 
+// The place of a stored command, the first one for any other.
+fn stored_slot(at: usize) -> usize
+    ensures { λ r. ⌜ r ≡ cond (ltb at 12) at 0 ⌝ }
+    ensures { λ r. ⌜ r < 12 ⌝ }
+{
+    if at < 12 {
+        return at;
+    }
+    0
+}
+
+// What stands there after a data segment: the command's list, the old one where the command is not stored.
+fn stored_entry(place: usize, params: Params, old: Stored) -> Stored
+    ensures { λ r. ⌜ r ≡ cond (ltb place 12) (record { present = true; params = params }) old ⌝ }
+{
+    if place < 12 {
+        return Stored {
+            present: true,
+            params,
+        };
+    }
+    old
+}
+
 impl Controller {
-    fn add_pixel_bytes(mut self, i: usize, n: u64) -> Controller
-        requires { ⌜ (i < 128) × (getD (self .records) i noRecord .«pixel_bytes» + n < 2 ^ 64) ⌝ }
-        ensures { λ r. ⌜ r ≡ withRecords (set (self .records) i (morePixels n (getD (self .records) i noRecord))) self ⌝ }
-    {
-        let mut record = self.records[i];
-        record.pixel_bytes = record.pixel_bytes + n;
-        self.records[i] = record;
-        self
-    }
-
-    fn trace_pixels(self, n: u64) -> Controller
-        requires { ⌜ Placed (self .logs .current) × (pixelsHeld (self .logs .current) (self .records) + n < 2 ^ 64) ⌝ }
-        ensures { λ r. ⌜ r ≡ withRecords (onCurrent (morePixels n) (self .logs .current) (self .records)) self ⌝ }
-    {
-        let logs = self.logs;
-        let current = logs.current;
-        match current {
-            Current::Nothing => self,
-            Current::At(i) => self.add_pixel_bytes(wide(i), n),
-        }
-    }
-
-    fn add_params(mut self, i: usize, bytes: &[u8]) -> Controller
-        requires { ⌜ i < 128 ⌝ }
-        ensures { λ r. ⌜ r ≡ withRecords (set (self .records) i (moreParams (now (bytes .entry)) (getD (self .records) i noRecord))) self ⌝ }
-    {
-        let mut record = self.records[i];
-        let old = record.params;
-        let params = old.append(bytes);
-        record.params = params;
-        self.records[i] = record;
-        self
-    }
-
-    fn trace_params(self, bytes: &[u8]) -> Controller
-        requires { ⌜ Placed (self .logs .current) ⌝ }
-        ensures { λ r. ⌜ r ≡ withRecords (onCurrent (moreParams (now (bytes .entry))) (self .logs .current) (self .records)) self ⌝ }
-    {
-        let logs = self.logs;
-        let current = logs.current;
-        match current {
-            Current::Nothing => self,
-            Current::At(i) => self.add_params(wide(i), bytes),
-        }
-    }
-
-    fn store(mut self, c: u8, params: Params) -> Controller
-        ensures { λ r. ⌜ r ≡ withStored (storedAfter c params (self .stored)) self ⌝ }
-    {
-        let at = lists::stored_place(c);
-        if at < 12 {
-            self.stored[at] = Stored {
-                present: true,
-                params,
-            };
-            return self;
-        }
-        self
-    }
-
-    fn write_pixels(self, bytes: &[u8], memory: &mut [u16]) -> Controller
+    fn write_pixels(mut self, bytes: &[u8], memory: &mut [u16]) -> Controller
         requires { ⌜ Room (length (now bytes)) self ⌝ }
         ensures { λ r. ⌜ r ≡ ran (now (bytes .entry)) self ⌝ }
         ensures { λ r. ⌜ now (memory .exit) ≡ written (now (memory .entry)) (stores (self .chip .window) (self .chip .registers .madctl) (self .chip .walk) (now (bytes .entry))) ⌝ }
@@ -88,19 +52,23 @@ impl Controller {
         let marks = self.marks;
         let dirty = marks.dirty;
         let run = pixels::write_pixels(window, chip.registers.madctl, walk, dirty, bytes, memory);
-        let mut after = self.trace_pixels(bytes.len() as u64);
         let walk = run.walk;
         let dirty = run.dirty;
         let marks = Marks { dirty };
         chip.walk = walk;
-        after.chip = chip;
-        let written = after.counts.pixels_written + run.pixels;
-        after.counts.pixels_written = written;
-        after.marks = marks;
-        after
+        let logs = self.logs;
+        let current = logs.current;
+        let at = place(current);
+        let old = self.records[at];
+        let record = grown(current, old, bytes.len() as u64);
+        self.records[at] = record;
+        self.chip = chip;
+        self.counts.pixels_written = self.counts.pixels_written + run.pixels;
+        self.marks = marks;
+        self
     }
 
-    fn take_params(self, c: u8, bytes: &[u8]) -> Controller
+    fn take_params(mut self, c: u8, bytes: &[u8]) -> Controller
         requires { ⌜ Room (length (now bytes)) self ⌝ }
         ensures { λ r. ⌜ r ≡ taken c (now (bytes .entry)) self ⌝ }
     {
@@ -110,11 +78,19 @@ impl Controller {
         let lost = params.excess(bytes.len());
         let list = params.append(bytes);
         let chip = old_chip.take(c, bytes);
-        let mut after = self.trace_params(bytes);
-        after.chip = chip;
-        let dropped = after.counts.dropped_params + lost;
-        after.counts.dropped_params = dropped;
-        after.store(c, list)
+        let logs = self.logs;
+        let current = logs.current;
+        let at = place(current);
+        let old = self.records[at];
+        let record = noted(current, old, bytes);
+        let stored = lists::stored_place(c);
+        let slot = stored_slot(stored);
+        let entry = stored_entry(stored, list, self.stored[slot]);
+        self.records[at] = record;
+        self.stored[slot] = entry;
+        self.chip = chip;
+        self.counts.dropped_params = self.counts.dropped_params + lost;
+        self
     }
 
     pub(crate) fn data(self, bytes: &[u8], memory: &mut [u16]) -> Controller

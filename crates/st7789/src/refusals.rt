@@ -17,13 +17,10 @@ fn chip_bad(chip: Chip) -> bool
     ensures { λ r. ⌜ r ≡ (windowBad (chip .window) || (pointerBad (chip .walk .pointer) || tooLong (chip .decoder .params))) ⌝ }
 {
     let window = chip.window;
-    let walk = chip.walk;
-    let pointer = walk.pointer;
-    let decoder = chip.decoder;
-    let params = decoder.params;
+    let pointer = chip.walk.pointer;
     let corners = geometry::window_bad(window);
     let at = geometry::pointer_bad(pointer);
-    corners | (at | (params.count > 14))
+    corners | (at | (chip.decoder.params.count > 14))
 }
 
 impl Controller {

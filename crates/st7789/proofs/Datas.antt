@@ -67,20 +67,20 @@ module _ (s : Controller) (bytes : List ℕ) (room : Room (length bytes) s) wher
 
 -- Where the command is not stored the old entry is stored back.
 pub entry-put :
-    (c : ℕ) (p : Params) (l : List Stored) (d : Stored) (q : Params) (place at : ℕ) (x : Stored) → length l ≡ 12 → p ≡ q →
-    place ≡ placeOf c → at ≡ cond (ltb place 12) place 0 →
-    x ≡ cond (ltb place 12) (record { present = true; params = p }) (getD l at d) → set l at x ≡ storedAfter c q l
-entry-put c p l d q place at x h ep e ea ex = by-test (ltb place 12) refl
+    (c : ℕ) (p : Params) (l : List Stored) (d : Stored) (q : Params) (at : ℕ) (x : Stored) → length l ≡ 12 → p ≡ q →
+    at ≡ cond (ltb (placeOf c) 12) (placeOf c) 0 →
+    x ≡ cond (ltb (placeOf c) 12) (record { present = true; params = p }) (getD l at d) → set l at x ≡ storedAfter c q l
+entry-put c p l d q at x h ep ea ex = by-test (ltb (placeOf c) 12) refl
   where
-    by-test : (b : Bool) → ltb place 12 ≡ b → set l at x ≡ storedAfter c q l
+    by-test : (b : Bool) → ltb (placeOf c) 12 ≡ b → set l at x ≡ storedAfter c q l
     by-test true eb =
         ap₂ (set l)
-        (ea ∙ ap (λ b. cond b place 0) eb ∙ e)
+        (ea ∙ ap (λ b. cond b (placeOf c) 0) eb)
         (ex ∙ ap (λ b. cond b (record { present = true; params = p }) (getD l at d)) eb ∙ ap (λ p. record { present = true; params = p }) ep)
     by-test false eb =
         ap (set l at) (ex ∙ ap (λ b. cond b (record { present = true; params = p }) (getD l at d)) eb)
         ∙ set-getD l at d
-        ∙ sym (set-out l (placeOf c) (record { present = true; params = q }) (omega (arith, h, e, ltb-false place 12 eb)))
+        ∙ sym (set-out l (placeOf c) (record { present = true; params = q }) (omega (arith, h, ltb-false (placeOf c) 12 eb)))
 
 -- The three ways of data.
 module _ (s : Controller) (bytes : List ℕ) where

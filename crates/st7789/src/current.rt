@@ -3,6 +3,7 @@ ghost use mathlib.Core.Path.{_≡_};
 ghost use Prim.Native.Nat.{_+_, _^_, _<_};
 ghost use Rattle.st7789.specs.Data.{morePixels, moreParams};
 ghost use Rattle.st7789.specs.Places.{slotOf, currentSlot, wrongFor, heldFor, ifCurrent};
+use crate::Logs;
 use crate::wide;
 use lists::Current;
 use lists::Params;
@@ -19,10 +20,11 @@ pub(crate) fn slot(n: u8) -> usize
     0
 }
 
-pub(crate) fn place(current: Current) -> usize
-    ensures { λ r. ⌜ r ≡ currentSlot current ⌝ }
+pub(crate) fn place(logs: Logs) -> usize
+    ensures { λ r. ⌜ r ≡ currentSlot (logs .current) ⌝ }
     ensures { λ r. ⌜ r < 128 ⌝ }
 {
+    let current = logs.current;
     match current {
         Current::Nothing => 0,
         Current::At(i) => slot(i),
@@ -30,13 +32,14 @@ pub(crate) fn place(current: Current) -> usize
 }
 
 // Whether a record is current that is not the last used one, or has other parameters than those in force.
-pub(crate) fn current_bad(current: Current, traced: u8, params: Params, in_force: Params) -> bool
-    ensures { λ r. ⌜ r ≡ wrongFor current traced params «in_force» ⌝ }
+pub(crate) fn current_bad(logs: Logs, params: Params, in_force: Params) -> bool
+    ensures { λ r. ⌜ r ≡ wrongFor (logs .current) (logs .traced) params «in_force» ⌝ }
 {
+    let current = logs.current;
     match current {
         Current::Nothing => false,
         Current::At(i) => {
-            let last = wide(i) + 1 == wide(traced);
+            let last = wide(i) + 1 == wide(logs.traced);
             let differs = params.differs(in_force);
             !last | differs
         }
@@ -44,9 +47,10 @@ pub(crate) fn current_bad(current: Current, traced: u8, params: Params, in_force
 }
 
 // The current record's pixel bytes, 0 where none is current.
-pub(crate) fn held(current: Current, pixel_bytes: u64) -> u64
-    ensures { λ r. ⌜ r ≡ heldFor current «pixel_bytes» ⌝ }
+pub(crate) fn held(logs: Logs, pixel_bytes: u64) -> u64
+    ensures { λ r. ⌜ r ≡ heldFor (logs .current) «pixel_bytes» ⌝ }
 {
+    let current = logs.current;
     match current {
         Current::Nothing => 0,
         Current::At(i) => pixel_bytes,
@@ -54,10 +58,11 @@ pub(crate) fn held(current: Current, pixel_bytes: u64) -> u64
 }
 
 // The record with n more pixel bytes, where it is current.
-pub(crate) fn grown(current: Current, old: TraceRecord, n: u64) -> TraceRecord
-    requires { ⌜ heldFor current (old .«pixel_bytes») + n < 2 ^ 64 ⌝ }
-    ensures { λ r. ⌜ r ≡ ifCurrent (morePixels n) current old ⌝ }
+pub(crate) fn grown(logs: Logs, old: TraceRecord, n: u64) -> TraceRecord
+    requires { ⌜ heldFor (logs .current) (old .«pixel_bytes») + n < 2 ^ 64 ⌝ }
+    ensures { λ r. ⌜ r ≡ ifCurrent (morePixels n) (logs .current) old ⌝ }
 {
+    let current = logs.current;
     match current {
         Current::Nothing => old,
         Current::At(i) => TraceRecord {
@@ -68,9 +73,10 @@ pub(crate) fn grown(current: Current, old: TraceRecord, n: u64) -> TraceRecord
 }
 
 // The record with the bytes that its parameters have room for, where it is current.
-pub(crate) fn noted(current: Current, old: TraceRecord, bytes: &[u8]) -> TraceRecord
-    ensures { λ r. ⌜ r ≡ ifCurrent (moreParams (now (bytes .entry))) current old ⌝ }
+pub(crate) fn noted(logs: Logs, old: TraceRecord, bytes: &[u8]) -> TraceRecord
+    ensures { λ r. ⌜ r ≡ ifCurrent (moreParams (now (bytes .entry))) (logs .current) old ⌝ }
 {
+    let current = logs.current;
     match current {
         Current::Nothing => old,
         Current::At(i) => {

@@ -4,6 +4,7 @@ ghost use mathlib.Core.Bool.{true, cond};
 ghost use Prim.Native.Nat.{_<_};
 ghost use lib.ListN.{length};
 ghost use lib.Dec.{ltb};
+ghost use Rattle.lists.specs.Entries.{placeOf};
 ghost use Rattle.pixels.specs.Run.{stores, written};
 ghost use Rattle.st7789.specs.Data.{ran, taken, dataIn, storesIn};
 ghost use Rattle.st7789.specs.Room.{Room};
@@ -17,10 +18,11 @@ use lists::Params;
 use lists::Stored;
 
 // The place of a stored command, the first one for any other.
-fn stored_slot(at: usize) -> usize
-    ensures { λ r. ⌜ r ≡ cond (ltb at 12) at 0 ⌝ }
+fn stored_slot(c: u8) -> usize
+    ensures { λ r. ⌜ r ≡ cond (ltb (placeOf c) 12) (placeOf c) 0 ⌝ }
     ensures { λ r. ⌜ r < 12 ⌝ }
 {
+    let at = lists::stored_place(c);
     if at < 12 {
         return at;
     }
@@ -28,10 +30,10 @@ fn stored_slot(at: usize) -> usize
 }
 
 // What stands there after a data segment: the command's list, the old one where the command is not stored.
-fn stored_entry(place: usize, params: Params, old: Stored) -> Stored
-    ensures { λ r. ⌜ r ≡ cond (ltb place 12) (record { present = true; params = params }) old ⌝ }
+fn stored_entry(c: u8, params: Params, old: Stored) -> Stored
+    ensures { λ r. ⌜ r ≡ cond (ltb (placeOf c) 12) (record { present = true; params = params }) old ⌝ }
 {
-    if place < 12 {
+    if lists::stored_place(c) < 12 {
         return Stored {
             present: true,
             params,
@@ -47,24 +49,26 @@ impl Controller {
         ensures { λ r. ⌜ now (memory .exit) ≡ written (now (memory .entry)) (stores (self .chip .window) (self .chip .registers .madctl) (self .chip .walk) (now (bytes .entry))) ⌝ }
     {
         let mut chip = self.chip;
-        let window = chip.window;
-        let walk = chip.walk;
         let marks = self.marks;
         let dirty = marks.dirty;
-        let run = pixels::write_pixels(window, chip.registers.madctl, walk, dirty, bytes, memory);
+        let run = pixels::write_pixels(
+            chip.window,
+            chip.registers.madctl,
+            chip.walk,
+            dirty,
+            bytes,
+            memory,
+        );
         let walk = run.walk;
         let dirty = run.dirty;
         let marks = Marks { dirty };
+        let at = place(self.logs);
+        let record = grown(self.logs, self.records[at], bytes.len() as u64);
         chip.walk = walk;
-        let logs = self.logs;
-        let current = logs.current;
-        let at = place(current);
-        let old = self.records[at];
-        let record = grown(current, old, bytes.len() as u64);
-        self.records[at] = record;
         self.chip = chip;
         self.counts.pixels_written = self.counts.pixels_written + run.pixels;
         self.marks = marks;
+        self.records[at] = record;
         self
     }
 
@@ -72,24 +76,18 @@ impl Controller {
         requires { ⌜ Room (length (now bytes)) self ⌝ }
         ensures { λ r. ⌜ r ≡ taken c (now (bytes .entry)) self ⌝ }
     {
-        let old_chip = self.chip;
-        let decoder = old_chip.decoder;
-        let params = decoder.params;
+        let params = self.chip.decoder.params;
         let lost = params.excess(bytes.len());
         let list = params.append(bytes);
-        let chip = old_chip.take(c, bytes);
-        let logs = self.logs;
-        let current = logs.current;
-        let at = place(current);
-        let old = self.records[at];
-        let record = noted(current, old, bytes);
-        let stored = lists::stored_place(c);
-        let slot = stored_slot(stored);
-        let entry = stored_entry(stored, list, self.stored[slot]);
-        self.records[at] = record;
-        self.stored[slot] = entry;
+        let chip = self.chip.take(c, bytes);
+        let at = place(self.logs);
+        let record = noted(self.logs, self.records[at], bytes);
+        let slot = stored_slot(c);
+        let entry = stored_entry(c, list, self.stored[slot]);
         self.chip = chip;
         self.counts.dropped_params = self.counts.dropped_params + lost;
+        self.records[at] = record;
+        self.stored[slot] = entry;
         self
     }
 
@@ -98,11 +96,10 @@ impl Controller {
         ensures { λ r. ⌜ r ≡ dataIn (now (bytes .entry)) self ⌝ }
         ensures { λ r. ⌜ now (memory .exit) ≡ written (now (memory .entry)) (storesIn true (now (bytes .entry)) self) ⌝ }
     {
-        let chip = self.chip;
-        let decoder = chip.decoder;
-        if decoder.in_pixels {
+        if self.chip.decoder.in_pixels {
             return self.write_pixels(bytes, memory);
         }
+        let decoder = self.chip.decoder;
         let cmd = decoder.cmd;
         match cmd {
             InForce::Nothing => self,

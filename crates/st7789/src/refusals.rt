@@ -16,10 +16,8 @@ use status::Status;
 fn chip_bad(chip: Chip) -> bool
     ensures { λ r. ⌜ r ≡ (windowBad (chip .window) || (pointerBad (chip .walk .pointer) || tooLong (chip .decoder .params))) ⌝ }
 {
-    let window = chip.window;
-    let pointer = chip.walk.pointer;
-    let corners = geometry::window_bad(window);
-    let at = geometry::pointer_bad(pointer);
+    let corners = geometry::window_bad(chip.window);
+    let at = geometry::pointer_bad(chip.walk.pointer);
     corners | (at | (chip.decoder.params.count > 14))
 }
 
@@ -28,33 +26,25 @@ impl Controller {
     pub fn bad_state(self) -> bool
         ensures answer { λ r. ⌜ r ≡ badState self ⌝ }
     {
-        let chip = self.chip;
-        let stored = self.stored;
+        let bad = chip_bad(self.chip);
+        let long = lists::stored_long(self.stored);
         let marks = self.marks;
         let dirty = marks.dirty;
-        let logs = self.logs;
-        let bad = chip_bad(chip);
-        let long = lists::stored_long(stored);
         let span = pixels::span_bad(dirty);
-        if bad | (long | ((logs.traced > 128) | ((logs.warned > 128) | span))) {
+        if bad | (long | ((self.logs.traced > 128) | ((self.logs.warned > 128) | span))) {
             return true;
         }
-        let n = wide(logs.traced);
+        let n = wide(self.logs.traced);
         let mut i = 0;
         while i < n {
-            let record = self.records[i];
-            let params = record.params;
-            if params.count > 14 {
+            if self.records[i].params.count > 14 {
                 return true;
             }
             i += 1;
         }
-        let current = logs.current;
-        let record = self.records[place(current)];
-        let params = record.params;
-        let decoder = chip.decoder;
-        let in_force = decoder.params;
-        current_bad(current, logs.traced, params, in_force)
+        let at = place(self.logs);
+        let record = self.records[at];
+        current_bad(self.logs, record.params, self.chip.decoder.params)
     }
 
     // Why a transfer with this much memory and this many bytes is refused, or that it is not.
@@ -64,16 +54,13 @@ impl Controller {
         if self.bad_state() {
             return Status::BadState;
         }
-        let counts = self.counts;
-        let logs = self.logs;
-        let current = logs.current;
-        let last = self.records[place(current)];
+        let at = place(self.logs);
         let high = status::counts_high(
-            counts.commands,
-            counts.ramwr_count,
-            counts.pixels_written,
-            counts.dropped_params,
-            held(current, last.pixel_bytes),
+            self.counts.commands,
+            self.counts.ramwr_count,
+            self.counts.pixels_written,
+            self.counts.dropped_params,
+            held(self.logs, self.records[at].pixel_bytes),
         );
         status::transfer_status(cells, bytes, high)
     }

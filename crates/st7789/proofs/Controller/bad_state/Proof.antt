@@ -17,10 +17,10 @@ use Rattle.st7789.proofs.Controller.bad_state.Statement.{statement}
 use Rattle.st7789.proofs.Controller.bad_state.Tie as tie
 
 abbrev Inv-loop : tie.InvT-loop
-Inv-loop self chip logs bad long span n i₀ i = Scan recordLong (used (traceOf self)) n i
+Inv-loop self bad long span n i₀ i = Scan recordLong (used (traceOf self)) n i
 
 abbrev μ-loop : tie.MeasureT-loop
-μ-loop self chip logs bad long span n i₀ i = n - i
+μ-loop self bad long span n i₀ i = n - i
 
 chip-bad-requires : tie.Need-chip-bad-requires Inv-loop μ-loop
 chip-bad-requires c κs = search needs
@@ -32,22 +32,22 @@ span-bad-requires : tie.Need-span-bad-requires Inv-loop μ-loop
 span-bad-requires c κs = search needs
 
 returns : tie.Need-returns Inv-loop μ-loop
-returns c = bad-early _ _ _ _ (c .before .before .before .before .before .chip-bad .ensures) (c .before .before .before .before .stored-long .ensures) (c .before .before .before .span-bad .ensures) (c .if1 .taken)
+returns c = bad-early _ _ _ _ (c .before .before .before .before .before .chip-bad .ensures) (c .before .before .before .stored-long .ensures) (c .before .span-bad .ensures) (c .if1 .taken)
 
 wide-requires : tie.Need-wide-requires Inv-loop μ-loop
 wide-requires c κs = search needs
 
 loop-holds : tie.Need-loop-holds Inv-loop μ-loop
-loop-holds c = let s = c .before .before .before .before .before .before .before .before .before .before .before .args .t1 in let h : length (s .records) ≡ 128 = unmapped TraceRecord (traceRecord.the-field .row .Denot) (traceRecord.the-field .into) (s .records) 128 (c .before .before .before .before .before .before .before .before .before .before .before .good .0 .1 .1 .1 .1 .1 .1 .1 .1 .1 .0 .1 .0 .1) in scan-first (rw length-take (omega (arith, c .wide .ensures, traced-within s _ _ _ (c .before .before .before .before .before .before .chip-bad .ensures) (c .before .before .before .before .before .stored-long .ensures) (c .before .before .before .before .span-bad .ensures) (c .before .if1 .left), h)))
+loop-holds c = let s = c .before .before .before .before .before .before .before .before .args .t1 in let h : length (s .records) ≡ 128 = unmapped TraceRecord (traceRecord.the-field .row .Denot) (traceRecord.the-field .into) (s .records) 128 (c .before .before .before .before .before .before .before .before .good .0 .1 .1 .1 .1 .1 .1 .1 .1 .1 .0 .1 .0 .1) in scan-first (rw length-take (omega (arith, c .wide .ensures, traced-within s _ _ _ (c .before .before .before .before .before .before .chip-bad .ensures) (c .before .before .before .before .stored-long .ensures) (c .before .before .span-bad .ensures) (c .before .if1 .left), h)))
 
-mul-record : tie.Need-mul-record Inv-loop μ-loop
-mul-record c = let h = traced-within (c .before .before .before .before .before .before .before .before .before .before .before .before .before .args .t1) _ _ _ (c .before .before .before .before .before .before .before .before .chip-bad .ensures) (c .before .before .before .before .before .before .before .stored-long .ensures) (c .before .before .before .before .before .before .span-bad .ensures) (c .before .before .before .if1 .left) in omega (arith, c .before .before .wide .ensures, h, c .loop-test .taken)
+mul-if2 : tie.Need-mul-if2 Inv-loop μ-loop
+mul-if2 c = let h = traced-within (c .before .before .before .before .before .before .before .before .before .before .args .t1) _ _ _ (c .before .before .before .before .before .before .before .before .chip-bad .ensures) (c .before .before .before .before .before .before .stored-long .ensures) (c .before .before .before .before .span-bad .ensures) (c .before .before .before .if1 .left) in omega (arith, c .before .before .wide .ensures, h, c .loop-test .taken)
 
-element-copy-out-record : tie.Need-element-copy-out-record Inv-loop μ-loop
-element-copy-out-record c = let h = traced-within (c .before .before .before .before .before .before .before .before .before .before .before .before .before .args .t1) _ _ _ (c .before .before .before .before .before .before .before .before .chip-bad .ensures) (c .before .before .before .before .before .before .before .stored-long .ensures) (c .before .before .before .before .before .before .span-bad .ensures) (c .before .before .before .if1 .left) in omega (arith, c .before .before .wide .ensures, h, c .loop-test .taken)
+element-copy-out-if2 : tie.Need-element-copy-out-if2 Inv-loop μ-loop
+element-copy-out-if2 c = let h = traced-within (c .before .before .before .before .before .before .before .before .before .before .args .t1) _ _ _ (c .before .before .before .before .before .before .before .before .chip-bad .ensures) (c .before .before .before .before .before .before .stored-long .ensures) (c .before .before .before .before .span-bad .ensures) (c .before .before .before .if1 .left) in omega (arith, c .before .before .wide .ensures, h, c .loop-test .taken)
 
 returns-2 : tie.Need-returns-2 Inv-loop μ-loop
-returns-2 c = let s = c .before .before .before .before .before .before .before .before .before .before .before .before .before .before .before .before .before .args .t1 in let l = c .before .before .before .before .before .loop in bad-record s _ _ _ (c .before .before .before .before .before .before .before .before .before .before .before .before .chip-bad .ensures) (c .before .before .before .before .before .before .before .before .before .before .before .stored-long .ensures) (c .before .before .before .before .before .before .before .before .before .before .span-bad .ensures) (c .before .before .before .before .before .before .before .if1 .left) (found (l .inv) noRecord (c .before .before .before .before .loop-test .taken) (rw (getD-take (s .logs .traced) (s .records) (l .i) noRecord (omega (arith, c .before .before .before .before .before .before .wide .ensures, c .before .before .before .before .loop-test .taken))) (lt-ltb _ _ (c .if2 .taken))))
+returns-2 c = let s = c .before .before .before .before .before .before .before .before .before .before .before .args .t1 in let l = c .before .before .loop in bad-record s _ _ _ (c .before .before .before .before .before .before .before .before .before .chip-bad .ensures) (c .before .before .before .before .before .before .before .stored-long .ensures) (c .before .before .before .before .before .span-bad .ensures) (c .before .before .before .before .if1 .left) (found (l .inv) noRecord (c .before .loop-test .taken) (rw (getD-take (s .logs .traced) (s .records) (l .i) noRecord (omega (arith, c .before .before .before .wide .ensures, c .before .loop-test .taken))) (lt-ltb _ _ (c .if2 .taken))))
 
 add-i : tie.Need-add-i Inv-loop μ-loop
 add-i c = search needs
@@ -56,22 +56,22 @@ loop-less : tie.Need-loop-less Inv-loop μ-loop
 loop-less c = search needs
 
 loop-again : tie.Need-loop-again Inv-loop μ-loop
-loop-again c = let s = c .before .before .before .before .before .before .before .before .before .before .before .before .before .before .before .before .before .args .t1 in let l = c .before .before .before .before .before .loop in scan-next (l .inv) noRecord (c .before .before .before .before .loop-test .taken) (rw (getD-take (s .logs .traced) (s .records) (l .i) noRecord (omega (arith, c .before .before .before .before .before .before .wide .ensures, c .before .before .before .before .loop-test .taken))) (le-ltb _ _ (c .if2 .left)))
+loop-again c = let s = c .before .before .before .before .before .before .before .before .before .before .before .args .t1 in let l = c .before .before .loop in scan-next (l .inv) noRecord (c .before .loop-test .taken) (rw (getD-take (s .logs .traced) (s .records) (l .i) noRecord (omega (arith, c .before .before .before .wide .ensures, c .before .loop-test .taken))) (le-ltb _ _ (c .if2 .left)))
 
 place-requires : tie.Need-place-requires Inv-loop μ-loop
 place-requires c κs = search needs
 
-mul-record-2 : tie.Need-mul-record-2 Inv-loop μ-loop
-mul-record-2 c = search needs
+mul-record : tie.Need-mul-record Inv-loop μ-loop
+mul-record c = search needs
 
-element-copy-out-record-2 : tie.Need-element-copy-out-record-2 Inv-loop μ-loop
-element-copy-out-record-2 c = search needs
+element-copy-out-record : tie.Need-element-copy-out-record Inv-loop μ-loop
+element-copy-out-record c = search needs
 
 current-bad-requires : tie.Need-current-bad-requires Inv-loop μ-loop
 current-bad-requires c κs = search needs
 
 returns-3 : tie.Need-returns-3 Inv-loop μ-loop
-returns-3 c = bad-late _ _ _ _ (c .before .before .before .before .before .before .before .before .before .before .before .before .before .before .chip-bad .ensures) (c .before .before .before .before .before .before .before .before .before .before .before .before .before .stored-long .ensures) (c .before .before .before .before .before .before .before .before .before .before .before .before .span-bad .ensures) (c .before .before .before .before .before .before .before .before .before .if1 .left) _ _ (ended (c .before .before .before .before .before .before .before .loop .inv) (c .before .before .before .before .before .before .loop-test .left)) (c .before .before .before .before .before .place .ensures .0) (c .current-bad .ensures)
+returns-3 c = bad-late _ _ _ _ (c .before .before .before .before .before .before .before .before .before .before .before .before .before .before .chip-bad .ensures) (c .before .before .before .before .before .before .before .before .before .before .before .before .stored-long .ensures) (c .before .before .before .before .before .before .before .before .before .before .span-bad .ensures) (c .before .before .before .before .before .before .before .before .before .if1 .left) _ _ (ended (c .before .before .before .before .before .before .before .loop .inv) (c .before .before .before .before .before .before .loop-test .left)) (c .before .before .before .before .place .ensures .0) (c .current-bad .ensures)
 
 pub bad-state-spec : {M : Type 1} → statement M
 bad-state-spec =
@@ -85,14 +85,14 @@ bad-state-spec =
     returns
     wide-requires
     loop-holds
-    mul-record
-    element-copy-out-record
+    mul-if2
+    element-copy-out-if2
     returns-2
     add-i
     loop-less
     loop-again
     place-requires
-    mul-record-2
-    element-copy-out-record-2
+    mul-record
+    element-copy-out-record
     current-bad-requires
     returns-3)

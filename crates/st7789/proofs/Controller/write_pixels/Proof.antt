@@ -9,14 +9,17 @@ write-pixels-requires c κs = search needs
 place-requires : tie.Need-place-requires
 place-requires c κs = search needs
 
-mul-old : tie.Need-mul-old
-mul-old c = search needs
+mul-grown : tie.Need-mul-grown
+mul-grown c = search needs
 
-element-copy-out-old : tie.Need-element-copy-out-old
-element-copy-out-old c = search needs
+element-copy-out-grown : tie.Need-element-copy-out-grown
+element-copy-out-grown c = search needs
 
 grown-requires : tie.Need-grown-requires
-grown-requires c κs = grown-fits (c .before .before .before .before .before .before .before .before .before .before .before .before .before .before .args .t1) (c .before .before .before .before .before .before .before .before .before .before .before .before .before .before .args .bytes .now) (c .before .before .before .before .before .before .before .before .before .before .before .before .before .before .pre) _ (c .before .place .ensures .0)
+grown-requires c κs = grown-fits (c .before .before .before .before .before .before .before .before .before .before .before .before .before .args .t1) (c .before .before .before .before .before .before .before .before .before .before .before .before .before .args .bytes .now) (c .before .before .before .before .before .before .before .before .before .before .before .before .before .pre) _ (c .before .before .place .ensures .0)
+
+add-self : tie.Need-add-self
+add-self c = pixels-fit (c .before .before .before .before .before .before .before .before .before .before .before .before .before .before .before .args .t1) (c .before .before .before .before .before .before .before .before .before .before .before .before .before .before .before .args .bytes .now) (c .before .before .before .before .before .before .before .before .before .before .before .before .before .before .before .pre) _ (c .before .before .before .before .before .before .before .before .before .write-pixels .ensures .0)
 
 mul-record : tie.Need-mul-record
 mul-record c = search needs
@@ -24,14 +27,11 @@ mul-record c = search needs
 element-set-from-record : tie.Need-element-set-from-record
 element-set-from-record c = search needs
 
-add-self : tie.Need-add-self
-add-self c = pixels-fit (c .before .before .before .before .before .before .before .before .before .before .before .before .before .before .before .before .args .t1) (c .before .before .before .before .before .before .before .before .before .before .before .before .before .before .before .before .args .bytes .now) (c .before .before .before .before .before .before .before .before .before .before .before .before .before .before .before .before .pre) _ (c .before .before .before .before .before .before .before .before .write-pixels .ensures .0)
-
 same-length : tie.Need-same-length
 same-length c = search needs
 
 returns : tie.Need-returns
-returns c = (pixels-put (c .before .before .before .before .before .before .before .before .before .before .before .before .before .before .before .before .before .args .t1) (c .before .before .before .before .before .before .before .before .before .before .before .before .before .before .before .before .before .args .bytes .now) (c .before .before .before .before .before .before .before .before .before .before .before .before .before .before .before .before .before .pre) _ _ _ (c .before .before .before .before .before .before .before .before .before .write-pixels .ensures .0) (c .before .before .before .before .place .ensures .0) (c .before .before .grown .ensures), c .before .before .before .before .before .before .before .before .before .write-pixels .ensures .1)
+returns c = (pixels-put (c .before .before .before .before .before .before .before .before .before .before .before .before .before .before .before .before .args .t1) (c .before .before .before .before .before .before .before .before .before .before .before .before .before .before .before .before .args .bytes .now) (c .before .before .before .before .before .before .before .before .before .before .before .before .before .before .before .before .pre) _ _ _ (c .before .before .before .before .before .before .before .before .before .before .write-pixels .ensures .0) (c .before .before .before .before .before .place .ensures .0) (c .before .before .grown .ensures), c .before .before .before .before .before .before .before .before .before .before .write-pixels .ensures .1)
 
 pub write-pixels-spec : {M : Type 1} → statement M
 write-pixels-spec =
@@ -39,11 +39,11 @@ write-pixels-spec =
     (tie.spec
     write-pixels-requires
     place-requires
-    mul-old
-    element-copy-out-old
+    mul-grown
+    element-copy-out-grown
     grown-requires
+    add-self
     mul-record
     element-set-from-record
-    add-self
     same-length
     returns)

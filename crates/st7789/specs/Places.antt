@@ -1,4 +1,4 @@
--- How the code looks at the current record: at a place that the list always has, and by what stands there.
+-- How the code looks at the current record, at a place that the list always has, and the logs of a begun command.
 use Prim.Native.Nat.{ℕ, _+_}
 use mathlib.Core.Bool.{Bool, false, cond, not, _||_}
 use lib.Dec.{ltb, eqb}
@@ -7,6 +7,7 @@ use Rattle.lists.specs.declared.Params.{Params}
 use Rattle.lists.specs.declared.TraceRecord.{TraceRecord}
 use Rattle.lists.specs.declared.Current.{Current}
 use Rattle.lists.specs.declared.Current.the-variants.{Nothing, At}
+use Rattle.st7789.specs.declared.Logs.{Logs}
 
 -- The place of entry n, the first one where there is none.
 abbrev pub slotOf : ℕ → ℕ
@@ -30,3 +31,12 @@ heldFor (At i) n = n
 abbrev pub ifCurrent : (TraceRecord → TraceRecord) → Current → TraceRecord → TraceRecord
 ifCurrent f Nothing r = r
 ifCurrent f (At i) r = f r
+
+-- A record more, which is current, or none where there is no room.
+abbrev pub logsBegun : Logs → Logs
+logsBegun l =
+    record {
+      traced = cond (ltb (l .traced) 128) (l .traced + 1) (l .traced);
+      warned = l .warned;
+      current = cond (ltb (l .traced) 128) (At (l .traced)) Nothing;
+    }

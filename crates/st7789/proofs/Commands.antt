@@ -1,20 +1,28 @@
 -- A command's begin, and the loop over a segment of commands.
 use Prim.Native.Nat.{ℕ, _+_, _-_, _^_, _≤_, _<_}
-use mathlib.Core.Path.{_≡_, refl, ap, _∙_}
-use mathlib.Core.Bool.{Bool, true, false, cond}
+use mathlib.Core.Path.{_≡_, refl, sym, ap, _∙_}
+use mathlib.Core.Bool.{Bool, true, false, cond, _||_, true≢false}
 use mathlib.Core.List.{List, [], _∷_, map}
 use native.Mathlib.Numerals.{add-one}
 use native.Mathlib.Omega.{arith}
-use lib.Dec.{eqb}
-use lib.ListN.{length, getD, drop, drop-of-length-le}
-use lib.Seq.{drop-cons}
+use lib.Dec.{ltb, eqb}
+use lib.ListN.{length, set, getD, drop, drop-of-length-le}
+use lib.Seq.{drop-cons, set-getD}
 use Rattle.lists.specs.Fixed.{Fixed, pushAll}
+use Rattle.lists.specs.declared.TraceRecord.{TraceRecord}
 use Rattle.lists.specs.declared.Warning.{Warning}
+use Rattle.lists.specs.declared.Current.the-variants.{Nothing, At}
+use Rattle.chip.specs.Begin.{chipBegun}
+use Rattle.chip.specs.declared.Chip.{Chip}
 use Rattle.timing.specs.Lint.{brokenBy, rulesOf}
 use Rattle.timing.specs.declared.Broken.{Broken}
-use Rattle.st7789.specs.Parts.{warningsOf, withWarnings}
-use Rattle.st7789.specs.Command.{warning, linted, begun, begunAll}
+use Rattle.st7789.specs.Parts.{warningsOf, whole, withWarnings}
+use Rattle.st7789.specs.Command.{warning, countsBegun, begunRecord, begun, begunAll}
+use Rattle.st7789.specs.Data.{noRecord}
+use Rattle.st7789.specs.Places.{slotOf, logsBegun}
 use Rattle.st7789.specs.Room.{Room}
+use Rattle.st7789.specs.declared.Counts.{Counts}
+use Rattle.st7789.specs.declared.Logs.{Logs}
 use Rattle.st7789.specs.declared.Controller.{Controller}
 
 -- The broken rules one by one are the broken rules in order.
@@ -37,17 +45,64 @@ rules-in-turn f w b = go (b .rule1) (b .rule2) (b .rule3)
     go false false true = refl
     go false false false = refl
 
-pub three-rules :
-    (c t : ℕ) (s one two three : Controller) (b : Broken) → b ≡ brokenBy (s .chip .times) (s .chip .registers .colmod) c t →
-    one ≡ withWarnings (pushAll 128 (warningsOf s) (cond (b .rule1) (warning c t 1 ∷ []) [])) s →
-    two ≡ withWarnings (pushAll 128 (warningsOf one) (cond (b .rule2) (warning c t 2 ∷ []) [])) one →
-    three ≡ withWarnings (pushAll 128 (warningsOf two) (cond (b .rule3) (warning c t 3 ∷ []) [])) two → three ≡ linted c t s
-three-rules c t s one two three b eb e1 e2 e3 =
-    e3
-    ∙ ap (λ s. withWarnings (pushAll 128 (warningsOf s) (cond (b .rule3) (warning c t 3 ∷ []) [])) s)
-    (e2 ∙ ap (λ s. withWarnings (pushAll 128 (warningsOf s) (cond (b .rule2) (warning c t 2 ∷ []) [])) s) e1)
-    ∙ ap (λ f. withWarnings f s) (rules-in-turn (warningsOf s) (warning c t) b)
-    ∙ ap (λ b. withWarnings (pushAll 128 (warningsOf s) (map (warning c t) (rulesOf b))) s) eb
+-- The record is stored where there is room, what stood there where there is none.
+record-put :
+    (b : Bool) (n : ℕ) (l : List TraceRecord) (x : TraceRecord) (f : ℕ → List TraceRecord → Controller) →
+    let g : Fixed TraceRecord = cond b (record { count = n + 1; places = set l n x }) (record { count = n; places = l }) in
+    f (cond b (n + 1) n) (set l (cond b n 0) (cond b x (getD l (cond b n 0) noRecord))) ≡ f (g .count) (g .places)
+record-put true n l x f = refl
+record-put false n l x f = ap (f n) (set-getD l 0 noRecord)
+
+none-broken : (x y z : Bool) → x || (y || z) ≡ false → rulesOf (record { rule1 = x; rule2 = y; rule3 = z }) ≡ []
+none-broken true y z e = absurd (true≢false e)
+none-broken false true z e = absurd (true≢false e)
+none-broken false false true e = absurd (true≢false e)
+none-broken false false false e = refl
+
+-- The controller after a turn, before the warnings.
+abbrev turned : Controller → Chip → Counts → Logs → ℕ → TraceRecord → Controller
+turned s chip counts logs at r =
+    whole (s .cfg) (s .power) chip counts (s .marks .dirty) logs (s .stored) (set (s .records) at r) (s .warnings)
+
+module _
+    (c t : ℕ) (s : Controller) {b : Broken} {at : ℕ} {r : TraceRecord} {chip : Chip} {counts : Counts} {logs : Logs}
+    (eb : b ≡ brokenBy (s .chip .times) (s .chip .registers .colmod) c t) (ea : at ≡ slotOf (s .logs .traced))
+    (er : r ≡ cond (ltb (s .logs .traced) 128) (begunRecord c t) (getD (s .records) at noRecord)) (ech : chip ≡ chipBegun c t (s .chip))
+    (ect : counts ≡ countsBegun c (s .counts)) (el : logs ≡ logsBegun (s .logs))
+  where
+    -- the warnings may come last
+    late : withWarnings (pushAll 128 (warningsOf (turned s chip counts logs at r)) (map (warning c t) (rulesOf b))) (turned s chip counts logs at r) ≡ begun c t s
+    unfolding begun
+    late =
+        let n = s .logs .traced in
+        let w : Fixed Warning =
+        pushAll 128 (warningsOf s) (map (warning c t) (rulesOf (brokenBy (s .chip .times) (s .chip .registers .colmod) c t)))
+        in
+        rw (eb, ech, ect, el, er, ea)
+        (record-put (ltb n 128) n (s .records) (begunRecord c t)
+        (λ k l.
+        whole (s .cfg) (s .power) (chipBegun c t (s .chip)) (countsBegun c (s .counts)) (s .marks .dirty)
+        (record { traced = k; warned = w .count; current = cond (ltb n 128) (At n) Nothing })
+        (s .stored) l (w .places)))
+
+    pub quiet-turn : b .rule1 || (b .rule2 || b .rule3) ≡ false → turned s chip counts logs at r ≡ begun c t s
+    quiet-turn e =
+        ap (λ l. withWarnings (pushAll 128 (warningsOf (turned s chip counts logs at r)) (map (warning c t) l)) (turned s chip counts logs at r))
+        (sym (none-broken (b .rule1) (b .rule2) (b .rule3) e))
+        ∙ late
+
+    pub loud-turn :
+        {one two three : Controller} →
+        one ≡
+        withWarnings (pushAll 128 (warningsOf (turned s chip counts logs at r)) (cond (b .rule1) (warning c t 1 ∷ []) [])) (turned s chip counts logs at r) →
+        two ≡ withWarnings (pushAll 128 (warningsOf one) (cond (b .rule2) (warning c t 2 ∷ []) [])) one →
+        three ≡ withWarnings (pushAll 128 (warningsOf two) (cond (b .rule3) (warning c t 3 ∷ []) [])) two → three ≡ begun c t s
+    loud-turn {one} {two} {three} e1 e2 e3 =
+        e3
+        ∙ ap (λ s. withWarnings (pushAll 128 (warningsOf s) (cond (b .rule3) (warning c t 3 ∷ []) [])) s)
+        (e2 ∙ ap (λ s. withWarnings (pushAll 128 (warningsOf s) (cond (b .rule2) (warning c t 2 ∷ []) [])) s) e1)
+        ∙ ap (λ f. withWarnings f (turned s chip counts logs at r)) (rules-in-turn (warningsOf (turned s chip counts logs at r)) (warning c t) b)
+        ∙ late
 
 -- The loop: what is left to begin from byte i on is what was to begin from the first.
 pub record Turn (t : ℕ) (bytes : List ℕ) (s₀ s : Controller) (i : ℕ) : Type 0 where

@@ -1,11 +1,13 @@
 -- Data: the controller after it, put together from what the parts answer.
 use Prim.Native.Nat.{ℕ, _+_, _^_, _≤_, _<_}
-use mathlib.Core.Path.{_≡_, sym, ap, ap₂, _∙_}
+use mathlib.Core.Path.{_≡_, refl, sym, ap, ap₂, _∙_}
 use mathlib.Core.Bool.{Bool, true, false, cond}
 use mathlib.Core.List.{List, []}
 use native.Mathlib.Omega.{arith}
 use lib.ListN.{length, set, getD}
-use lib.Seq.{set-out}
+use lib.Seq.{set-getD, set-out}
+use lib.Dec.{ltb}
+use borrow.Author.Tests.{ltb-false}
 use mir.Val.{Fits}
 use mir.Syntax.{w64}
 use Rattle.pixels.specs.Run.{stores, written}
@@ -13,76 +15,72 @@ use Rattle.pixels.specs.declared.Walked.{Walked}
 use Rattle.pixels.proofs.Laws.{counted-few}
 use Rattle.lists.specs.Params.{filled, excess}
 use Rattle.lists.specs.declared.Params.{Params}
+use Rattle.lists.specs.declared.Stored.{Stored}
 use Rattle.lists.specs.declared.TraceRecord.{TraceRecord}
-use Rattle.lists.specs.declared.Current.{Current}
-use Rattle.lists.specs.declared.Current.the-variants.{Nothing, At}
 use Rattle.chip.specs.Apply.{chipTaken}
 use Rattle.chip.specs.declared.InForce.{InForce}
 use Rattle.chip.specs.declared.InForce.the-variants.{Code}
 use Rattle.chip.specs.declared.Chip.{Chip}
 use Rattle.lists.specs.Entries.{placeOf}
 use Rattle.st7789.specs.Parts.{withChip, withCounts, withDirty, withStored}
-use Rattle.st7789.specs.Data.{noRecord, onCurrent, withRecords, morePixels, moreParams, walkOver, walkedChip, pixelsAdded, droppedAdded, storedAfter, ran, taken, dataFor, dataIn, storesIn}
-use Rattle.st7789.specs.Refusals.{pixelsHeld}
-use Rattle.st7789.specs.Room.{Placed, Room}
+use Rattle.st7789.specs.Data.{noRecord, withRecords, morePixels, moreParams, walkOver, walkedChip, pixelsAdded, droppedAdded, storedAfter, ran, taken, dataFor, dataIn, storesIn}
+use Rattle.st7789.specs.Places.{currentSlot, heldFor, ifCurrent}
+use Rattle.st7789.specs.Room.{Room}
 use Rattle.st7789.specs.declared.Controller.{Controller}
+use Rattle.st7789.proofs.Places.{held-here, put-here}
 
--- The current record: none, or the one at an index.
-module _ {k : Current} {i j : ℕ} (e : k ≡ At i) (ej : j ≡ i) where
-  pub placed-at : Placed k → j < 128
-  placed-at h = rw ej (rw e at h)
+module _ (s : Controller) (bytes : List ℕ) (room : Room (length bytes) s) where
+  pub grown-fits :
+      (at : ℕ) → at ≡ currentSlot (s .logs .current) →
+      heldFor (s .logs .current) (getD (s .records) at noRecord .«pixel_bytes») + length bytes < 2 ^ 64
+  grown-fits at e = rw (held-here (s .logs .current) (s .records) at (room .current) e) (room .held)
 
-  pub held-at : (records : List TraceRecord) (n : ℕ) → pixelsHeld k records + n < 2 ^ 64 → getD records j noRecord .«pixel_bytes» + n < 2 ^ 64
-  held-at records n h = rw ej (rw e at h)
-
-module _ (f : TraceRecord → TraceRecord) (s : Controller) where
-  pub no-current : s .logs .current ≡ Nothing → s ≡ withRecords (onCurrent f (s .logs .current) (s .records)) s
-  no-current e = ap (λ k. withRecords (onCurrent f k (s .records)) s) (sym e)
-
-  pub at-current :
-      {i j : ℕ} {r : Controller} → s .logs .current ≡ At i → j ≡ i →
-      r ≡ withRecords (set (s .records) j (f (getD (s .records) j noRecord))) s →
-      r ≡ withRecords (onCurrent f (s .logs .current) (s .records)) s
-  at-current {i} {j} {r} e ej er =
-      er
-      ∙ ap (λ j. withRecords (set (s .records) j (f (getD (s .records) j noRecord))) s) ej
-      ∙ ap (λ k. withRecords (onCurrent f k (s .records)) s) (sym e)
-
-module _ (s : Controller) (bytes : List ℕ) where
   -- a segment counts no more pixels than it has bytes
-  pub few : (w : Walked) → w ≡ walkOver s bytes → w .pixels ≤ length bytes
-  few w e = rw e (omega (arith, counted-few (s .chip .window) (s .chip .walk) bytes))
+  pub pixels-fit : (w : Walked) → w ≡ walkOver s bytes → Fits w64 (s .counts .«pixels_written» + w .pixels)
+  pixels-fit w e =
+      let h : w .pixels ≤ length bytes = rw e (omega (arith, counted-few (s .chip .window) (s .chip .walk) bytes)) in
+      record { fits = omega (arith, room .pixels) }
 
-  pub pixels-fit :
-      (w : Walked) (traced : Controller) (records : List TraceRecord) → Room (length bytes) s → w ≡ walkOver s bytes → traced ≡ withRecords records s →
-      Fits w64 (traced .counts .«pixels_written» + w .pixels)
-  pixels-fit w traced records room ew et = let h = few w ew in rw et (record { fits = omega (arith, room .pixels) })
-
-  pub dropped-fit :
-      (n : ℕ) (traced : Controller) (records : List TraceRecord) → Room (length bytes) s → n ≡ excess (s .chip .decoder .params) (length bytes) →
-      traced ≡ withRecords records s → Fits w64 (traced .counts .«dropped_params» + n)
-  dropped-fit n traced records room e et = rw et (record { fits = omega (arith, room .dropped) })
+  pub dropped-fit : (n : ℕ) → n ≡ excess (s .chip .decoder .params) (length bytes) → Fits w64 (s .counts .«dropped_params» + n)
+  dropped-fit n e = record { fits = omega (arith, room .dropped) }
 
   pub pixels-put :
-      (w : Walked) (traced : Controller) → w ≡ walkOver s bytes →
-      traced ≡ withRecords (onCurrent (morePixels (length bytes)) (s .logs .current) (s .records)) s →
-      withDirty (w .dirty) (withCounts (pixelsAdded (w .pixels) (traced .counts)) (withChip (walkedChip (w .walk) (s .chip)) traced)) ≡ ran bytes s
+      (w : Walked) (at : ℕ) (x : TraceRecord) → w ≡ walkOver s bytes → at ≡ currentSlot (s .logs .current) →
+      x ≡ ifCurrent (morePixels (length bytes)) (s .logs .current) (getD (s .records) at noRecord) →
+      withDirty (w .dirty)
+      (withCounts (pixelsAdded (w .pixels) (s .counts))
+      (withChip (walkedChip (w .walk) (s .chip)) (withRecords (set (s .records) at x) s))) ≡
+      ran bytes s
   unfolding ran
-  pixels-put w traced ew et = rw (ew, et)
+  pixels-put w at x ew ea ex =
+      rw (ew, put-here (morePixels (length bytes)) (s .logs .current) (s .records) at x (room .current) ea ex)
 
   pub params-put :
-      (c n : ℕ) (p : Params) (k : Chip) (traced r : Controller) → n ≡ excess (s .chip .decoder .params) (length bytes) →
-      p ≡ filled (s .chip .decoder .params) bytes → k ≡ chipTaken c bytes (s .chip) →
-      traced ≡ withRecords (onCurrent (moreParams bytes) (s .logs .current) (s .records)) s →
-      r ≡ withStored (storedAfter c p (traced .stored)) (withCounts (droppedAdded n (traced .counts)) (withChip k traced)) → r ≡ taken c bytes s
+      (c n : ℕ) (k : Chip) (at : ℕ) (x : TraceRecord) (l : List Stored) → n ≡ excess (s .chip .decoder .params) (length bytes) →
+      k ≡ chipTaken c bytes (s .chip) → at ≡ currentSlot (s .logs .current) →
+      x ≡ ifCurrent (moreParams bytes) (s .logs .current) (getD (s .records) at noRecord) →
+      l ≡ storedAfter c (filled (s .chip .decoder .params) bytes) (s .stored) →
+      withStored l (withCounts (droppedAdded n (s .counts)) (withChip k (withRecords (set (s .records) at x) s))) ≡ taken c bytes s
   unfolding taken
-  params-put c n p k traced r en ep ek et er = er ∙ rw (en, ep, ek, et)
+  params-put c n k at x l en ek ea ex el =
+      rw (en, ek, el, put-here (moreParams bytes) (s .logs .current) (s .records) at x (room .current) ea ex)
 
--- A code that is not stored changes no place.
-pub not-stored :
-    (s : Controller) (c at : ℕ) (p : Params) → at ≡ placeOf c → 12 ≤ at → length (s .stored) ≡ 12 → s ≡ withStored (storedAfter c p (s .stored)) s
-not-stored s c at p e h k =
-    ap (λ l. withStored l s) (sym (set-out (s .stored) (placeOf c) (record { present = true; params = p }) (omega (arith, e))))
+-- Where the command is not stored the old entry is stored back.
+pub entry-put :
+    (c : ℕ) (p : Params) (l : List Stored) (d : Stored) (q : Params) (at : ℕ) (x : Stored) → length l ≡ 12 → p ≡ q →
+    at ≡ cond (ltb (placeOf c) 12) (placeOf c) 0 →
+    x ≡ cond (ltb (placeOf c) 12) (record { present = true; params = p }) (getD l at d) → set l at x ≡ storedAfter c q l
+entry-put c p l d q at x h ep ea ex = by-test (ltb (placeOf c) 12) refl
+  where
+    by-test : (b : Bool) → ltb (placeOf c) 12 ≡ b → set l at x ≡ storedAfter c q l
+    by-test true eb =
+        ap₂ (set l)
+        (ea ∙ ap (λ b. cond b (placeOf c) 0) eb)
+        (ex ∙ ap (λ b. cond b (record { present = true; params = p }) (getD l at d)) eb ∙ ap (λ p. record { present = true; params = p }) ep)
+    by-test false eb =
+        ap (set l at) (ex ∙ ap (λ b. cond b (record { present = true; params = p }) (getD l at d)) eb)
+        ∙ set-getD l at d
+        ∙ sym (set-out l (placeOf c) (record { present = true; params = q }) (omega (arith, h, ltb-false (placeOf c) 12 eb)))
 
 -- The three ways of data.
 module _ (s : Controller) (bytes : List ℕ) where

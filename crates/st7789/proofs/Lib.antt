@@ -1,4 +1,5 @@
 pub mod Commands
 pub mod Datas
+pub mod Places
 pub mod Tests
 pub mod Accepted

@@ -1,15 +1,13 @@
 -- The refusal tests, and what is known where none of them refuses.
 use Prim.Native.Nat.{ℕ, _+_, _≤_}
 use mathlib.Core.Path.{_≡_, refl, sym, ap, _∙_}
-use mathlib.Core.Bool.{Bool, true, false, _||_, true≢false}
-use mathlib.Core.List.{List}
+use mathlib.Core.Bool.{Bool, true, false, _||_}
 use native.Mathlib.Omega.{arith}
-use borrow.Author.Tests.{eq-eqb, ne-eqb, eqb-true, ltb-false, not-false}
+use borrow.Author.Tests.{eqb-true, ltb-false, not-false}
 use lib.ListN.{getD}
 use lib.Dec.{eqb}
 use Rattle.lists.specs.Fixed.{used}
-use Rattle.lists.specs.Params.{differ, tooLong}
-use Rattle.lists.specs.declared.TraceRecord.{TraceRecord}
+use Rattle.lists.specs.Params.{tooLong}
 use Rattle.lists.specs.declared.Current.{Current}
 use Rattle.lists.specs.declared.Current.the-variants.{Nothing, At}
 use Rattle.lists.proofs.Bools.{neither}
@@ -18,26 +16,11 @@ use Rattle.geometry.specs.Bounds.{windowBad, pointerBad}
 use Rattle.pixels.specs.Spans.{spanBad}
 use Rattle.st7789.specs.Parts.{traceOf}
 use Rattle.st7789.specs.Data.{noRecord}
-use Rattle.st7789.specs.Refusals.{countBad, currentBad, badState, pixelsHeld}
+use Rattle.st7789.specs.Refusals.{countBad, currentBad, badState}
+use Rattle.st7789.specs.Places.{currentSlot, wrongFor}
 use Rattle.st7789.specs.Room.{Placed}
 use Rattle.st7789.specs.declared.Controller.{Controller}
-
--- The current record.
-module _ (s : Controller) (i at n : ℕ) (eat : at ≡ i) (en : n ≡ s .logs .traced) where
-  pub record-other : (at + 1 ≡ n → ⊥) → true ≡ currentBad (At i) s
-  record-other h = rw (ne-eqb (i + 1) (s .logs .traced) (λ e. h (omega arith)))
-
-  pub record-last :
-      (r : Bool) → at + 1 ≡ n → r ≡ differ (getD (s .records) at noRecord .params) (s .chip .decoder .params) → r ≡ currentBad (At i) s
-  record-last r h er =
-      er ∙ ap (λ k. differ (getD (s .records) k noRecord .params) (s .chip .decoder .params)) eat ∙ rw (eq-eqb (i + 1) (s .logs .traced) (omega arith))
-
-pub current-at : (s : Controller) (i : ℕ) (r : Bool) → s .logs .current ≡ At i → r ≡ currentBad (At i) s → r ≡ currentBad (s .logs .current) s
-current-at s i r e er = er ∙ ap (λ k. currentBad k s) (sym e)
-
-pub held-here :
-    (k : Current) (records : List TraceRecord) (i j n : ℕ) → k ≡ At i → j ≡ i → n ≡ getD records j noRecord .«pixel_bytes» → n ≡ pixelsHeld k records
-held-here k records i j n e ej en = en ∙ ap (λ j. getD records j noRecord .«pixel_bytes») ej ∙ ap (λ k. pixelsHeld k records) (sym e)
+use Rattle.st7789.proofs.Places.{wrong-here}
 
 -- BAD_STATE, clause by clause.
 pub none-of-four : (a b c d : Bool) → a || (b || (c || d)) ≡ false → (a ≡ false) × (b ≡ false) × (c ≡ false) × (d ≡ false)
@@ -46,18 +29,6 @@ none-of-four a b c d e =
     let e2 = neither b (c || d) (e1 .1) in
     let e3 = neither c d (e2 .1) in
     (e1 .0, e2 .0, e3 .0, e3 .1)
-
-one-of-four : (a b c d rest : Bool) → a || (b || (c || d)) ≡ true → true ≡ a || (b || (c || (d || rest)))
-one-of-four true b c d rest e = refl
-one-of-four false true c d rest e = refl
-one-of-four false false true d rest e = refl
-one-of-four false false false true rest e = refl
-one-of-four false false false false rest e = absurd (true≢false (sym e))
-
-one-of-two : (a b rest : Bool) → a || b ≡ true → true ≡ a || (b || rest)
-one-of-two true b rest e = refl
-one-of-two false true rest e = refl
-one-of-two false false rest e = absurd (true≢false (sym e))
 
 pub record Fine (s : Controller) : Type 0 where
   pub window : windowBad (s .chip .window) ≡ false
@@ -98,33 +69,64 @@ unfolding badState
 not-bad s f =
     rw (f .window, f .pointer, f .params, f .stored, f .traced, f .warned, f .records, f .span, f .current)
 
+-- The clauses in the code's order: span before records.
+in-turn :
+    (w p l d t n b r k : Bool) →
+    w || (p || (l || (d || (t || (n || (r || (b || k))))))) ≡ (w || (p || l)) || (d || (t || (n || b))) || (r || k)
+in-turn true p l d t n b r k = refl
+in-turn false true l d t n b r k = refl
+in-turn false false true d t n b r k = refl
+in-turn false false false true t n b r k = refl
+in-turn false false false false true n b r k = refl
+in-turn false false false false false true b r k = refl
+in-turn false false false false false false true true k = refl
+in-turn false false false false false false true false k = refl
+in-turn false false false false false false false r k = refl
+
+-- What is tested before the records: c, d and b are what was told of chip, stored commands and span.
+abbrev early : Controller → Bool → Bool → Bool → Bool
+early s c d b = c || (d || (countBad (s .logs .traced) || (countBad (s .logs .warned) || b)))
+
 -- The ways out of `bad_state`.
 module _
-    (s : Controller) (w p l : Bool) (ew : w ≡ windowBad (s .chip .window)) (ep : p ≡ pointerBad (s .chip .walk .pointer))
-    (el : l ≡ some storedLong (s .stored))
+    (s : Controller) (c d b : Bool)
+    (ec : c ≡ windowBad (s .chip .window) || (pointerBad (s .chip .walk .pointer) || tooLong (s .chip .decoder .params)))
+    (ed : d ≡ some storedLong (s .stored)) (eb : b ≡ spanBad (s .marks .dirty))
   where
-    pub bad-early : w || (p || (tooLong (s .chip .decoder .params) || l)) ≡ true → true ≡ badState s
+    turned : badState s ≡ early s c d b || (some recordLong (used (traceOf s)) || currentBad (s .logs .current) s)
     unfolding badState
-    bad-early e = rw (← ew, ← ep, ← el) (one-of-four w p (tooLong (s .chip .decoder .params)) l _ e)
+    turned =
+        rw (ec, ed, eb)
+        (in-turn
+        (windowBad (s .chip .window))
+        (pointerBad (s .chip .walk .pointer))
+        (tooLong (s .chip .decoder .params))
+        (some storedLong (s .stored))
+        (countBad (s .logs .traced))
+        (countBad (s .logs .warned))
+        (spanBad (s .marks .dirty))
+        (some recordLong (used (traceOf s)))
+        (currentBad (s .logs .current) s))
 
-    module _ (e : w || (p || (tooLong (s .chip .decoder .params) || l)) ≡ false) where
-      pub bad-counts : countBad (s .logs .traced) || countBad (s .logs .warned) ≡ true → true ≡ badState s
-      unfolding badState
-      bad-counts k =
-          let f = none-of-four w p (tooLong (s .chip .decoder .params)) l e in
-          rw (← ew, ← ep, ← el, f .0, f .1, f .2, f .3) (one-of-two (countBad (s .logs .traced)) (countBad (s .logs .warned)) _ k)
+    pub bad-early : early s c d b ≡ true → true ≡ badState s
+    bad-early e = sym (turned ∙ ap (λ a. a || (some recordLong (used (traceOf s)) || currentBad (s .logs .current) s)) e)
+
+    module _ (e : early s c d b ≡ false) where
+      pub traced-within : s .logs .traced ≤ 128
+      traced-within =
+          let e1 = neither c (d || (countBad (s .logs .traced) || (countBad (s .logs .warned) || b))) e in
+          let e2 = neither d (countBad (s .logs .traced) || (countBad (s .logs .warned) || b)) (e1 .1) in
+          ltb-false 128 (s .logs .traced) (neither _ _ (e2 .1) .0)
+
+      pub bad-record : true ≡ some recordLong (used (traceOf s)) → true ≡ badState s
+      bad-record h = sym (turned ∙ rw (e, ← h))
 
       pub bad-late :
-          (r d k : Bool) → countBad (s .logs .traced) || countBad (s .logs .warned) ≡ false → r ≡ some recordLong (used (traceOf s)) →
-          d ≡ spanBad (s .marks .dirty) → k ≡ currentBad (s .logs .current) s → r || (d || k) ≡ badState s
-      unfolding badState
-      bad-late r d k n er ed ek =
-          let f = none-of-four w p (tooLong (s .chip .decoder .params)) l e in
-          let g = neither (countBad (s .logs .traced)) (countBad (s .logs .warned)) n in
-          rw (← ew, ← ep, ← el, f .0, f .1, f .2, f .3, g .0, g .1, er, ed, ek)
-
-pub counts-within : (s : Controller) → countBad (s .logs .traced) || countBad (s .logs .warned) ≡ false → s .logs .traced ≤ 128
-counts-within s e = ltb-false 128 (s .logs .traced) (neither _ _ e .0)
+          (at : ℕ) (r : Bool) → false ≡ some recordLong (used (traceOf s)) → at ≡ currentSlot (s .logs .current) →
+          r ≡ wrongFor (s .logs .current) (s .logs .traced) (getD (s .records) at noRecord .params) (s .chip .decoder .params) →
+          r ≡ badState s
+      bad-late at r h ea er =
+          er ∙ wrong-here s (s .logs .current) at traced-within ea ∙ sym (turned ∙ rw (e, ← h))
 
 -- In a state that is not bad the current record is a place of the list.
 placed : (s : Controller) (k : Current) → s .logs .traced ≤ 128 → currentBad k s ≡ false → Placed k

@@ -1,16 +1,19 @@
-// Beginning a command, and the CS release.
+// Beginning commands, and the CS release.
 ghost use mathlib.Core.Path.{_≡_};
 ghost use mathlib.Core.Bool.{cond};
 ghost use mathlib.Core.List.{[], _∷_};
 ghost use Prim.Native.Nat.{_+_, _^_, _<_};
+ghost use lib.Dec.{ltb};
 ghost use lib.ListN.{length};
 ghost use Rattle.lists.specs.Fixed.{pushAll};
 ghost use Rattle.st7789.specs.Parts.{warningsOf, withWarnings};
-ghost use Rattle.st7789.specs.Command.{warning, linted, countsBegun, traced, begun, begunAll, released};
+ghost use Rattle.st7789.specs.Command.{warning, countsBegun, begunRecord, begunAll, released};
+ghost use Rattle.st7789.specs.Places.{logsBegun};
 ghost use Rattle.st7789.specs.Room.{Room};
 use crate::Controller;
 use crate::Counts;
 use crate::Logs;
+use crate::current::slot;
 use crate::wide;
 use lists::Current;
 use lists::Params;
@@ -29,6 +32,41 @@ impl Counts {
         }
         self
     }
+}
+
+impl Logs {
+    // A record more, which is current, or none where there is no room.
+    fn begin(self) -> Logs
+        ensures { λ r. ⌜ r ≡ logsBegun self ⌝ }
+    {
+        if self.traced < 128 {
+            return Logs {
+                traced: self.traced + 1,
+                warned: self.warned,
+                current: Current::At(self.traced),
+            };
+        }
+        Logs {
+            current: Current::Nothing,
+            ..self
+        }
+    }
+}
+
+// The record of a begun command, or what stands at its place where there is no room.
+fn begun_record(traced: u8, c: u8, t: u64, old: TraceRecord) -> TraceRecord
+    ensures { λ r. ⌜ r ≡ cond (ltb traced 128) (begunRecord c t) old ⌝ }
+{
+    if traced < 128 {
+        let params = Params::empty();
+        return TraceRecord {
+            at: t,
+            pixel_bytes: 0,
+            params,
+            cmd: c,
+        };
+    }
+    old
 }
 
 impl Controller {
@@ -52,88 +90,50 @@ impl Controller {
         self
     }
 
-    fn lint(self, c: u8, t: u64) -> Controller
-        ensures { λ r. ⌜ r ≡ linted c t self ⌝ }
-    {
-        let chip = self.chip;
-        let times = chip.times;
-        let broken = timing::lint(times, chip.registers.colmod, c, t);
-        let one = self.warn(broken.rule1, 1, c, t);
-        let two = one.warn(broken.rule2, 2, c, t);
-        two.warn(broken.rule3, 3, c, t)
-    }
-
-    fn trace_begin(mut self, c: u8, t: u64) -> Controller
-        ensures { λ r. ⌜ r ≡ traced c t self ⌝ }
-    {
-        let old = self.logs;
-        let n = old.traced;
-        if n < 128 {
-            let at = wide(n);
-            let params = Params::empty();
-            self.records[at] = TraceRecord {
-                at: t,
-                pixel_bytes: 0,
-                params,
-                cmd: c,
-            };
-            let logs = Logs {
-                traced: n + 1,
-                current: Current::At(n),
-                ..old
-            };
-            self.logs = logs;
-            return self;
-        }
-        let logs = Logs {
-            current: Current::Nothing,
-            ..old
-        };
-        self.logs = logs;
-        self
-    }
-
-    fn begin_command(self, c: u8, t: u64) -> Controller
-        requires { ⌜ (self .counts .commands + 1 < 2 ^ 64) × (self .counts .«ramwr_count» + 1 < 2 ^ 64) ⌝ }
-        ensures { λ r. ⌜ r ≡ begun c t self ⌝ }
-    {
-        let old_counts = self.counts;
-        let old_chip = self.chip;
-        let counts = old_counts.begin(c);
-        let chip = old_chip.begin(c, t);
-        let mut linted = self.lint(c, t);
-        linted.counts = counts;
-        linted.chip = chip;
-        linted.trace_begin(c, t)
-    }
-
     // Each byte begins a command.
-    pub(crate) fn commands(self, t: u64, bytes: &[u8]) -> Controller
+    pub(crate) fn begin_commands(self, t: u64, bytes: &[u8]) -> Controller
         requires { ⌜ Room (length (now bytes)) self ⌝ }
         ensures { λ r. ⌜ r ≡ begunAll t (now (bytes .entry)) self ⌝ }
     {
         let mut s = self;
         let mut i = 0;
         while i < bytes.len() {
-            s = s.begin_command(bytes[i], t);
+            let c = bytes[i];
             i += 1;
+            let broken = timing::lint(s.chip.times, s.chip.registers.colmod, c, t);
+            let at = slot(s.logs.traced);
+            let record = begun_record(s.logs.traced, c, t, s.records[at]);
+            let chip = s.chip.begin(c, t);
+            let counts = s.counts.begin(c);
+            let logs = s.logs.begin();
+            s.chip = chip;
+            s.counts = counts;
+            s.logs = logs;
+            s.records[at] = record;
+            if broken.rule1 | (broken.rule2 | broken.rule3) {
+                let one = s.warn(broken.rule1, 1, c, t);
+                let two = one.warn(broken.rule2, 2, c, t);
+                s = two.warn(broken.rule3, 3, c, t);
+            }
         }
         s
     }
 
-    // CS goes high: nothing is in force, no record is current, and the pointer stays.
-    pub(crate) fn cs_high(mut self) -> Controller
-        ensures { λ r. ⌜ r ≡ released self ⌝ }
+    // CS goes high, if asked: nothing is in force, no record is current, and the pointer stays.
+    pub(crate) fn release(mut self, cs_release: bool) -> Controller
+        ensures { λ r. ⌜ r ≡ cond «cs_release» (released self) self ⌝ }
     {
-        let old_chip = self.chip;
-        let chip = old_chip.release();
-        let old = self.logs;
-        let logs = Logs {
-            current: Current::Nothing,
-            ..old
-        };
-        self.chip = chip;
-        self.logs = logs;
+        if cs_release {
+            let chip = self.chip.release();
+            let old = self.logs;
+            let logs = Logs {
+                current: Current::Nothing,
+                ..old
+            };
+            self.chip = chip;
+            self.logs = logs;
+            return self;
+        }
         self
     }
 }

@@ -1,9 +1,7 @@
 // What a host calls: a panel made over lent memory, transfers with and without memory, and the reset of a board domain.
 ghost use mathlib.Core.Path.{_≡_};
-ghost use mathlib.Core.Bool.{cond};
 ghost use lib.ListN.{length};
 ghost use Rattle.pixels.specs.Run.{written};
-ghost use Rattle.st7789.specs.Command.{released};
 ghost use Rattle.st7789.specs.Data.{storesIn};
 ghost use Rattle.st7789.specs.Entries.{freshController, moved, transferred, transferMemory, bareTransferred, resetState, resetMemory, newMemory};
 ghost use Rattle.st7789.specs.Refusals.{transferRefusal, bareRefusal};
@@ -17,15 +15,6 @@ use status::PANEL_PIXELS;
 use status::accepted;
 
 impl Controller {
-    fn release_if(self, cs_release: bool) -> Controller
-        ensures { λ r. ⌜ r ≡ cond «cs_release» (released self) self ⌝ }
-    {
-        if cs_release {
-            return self.cs_high();
-        }
-        self
-    }
-
     // What an accepted transfer does, over memory of any length.
     fn decode(
         self,
@@ -41,10 +30,10 @@ impl Controller {
     {
         if dc {
             let after = self.data(bytes, memory);
-            return after.release_if(cs_release);
+            return after.release(cs_release);
         }
-        let after = self.commands(t, bytes);
-        after.release_if(cs_release)
+        let after = self.begin_commands(t, bytes);
+        after.release(cs_release)
     }
 
     // One SPI transaction: with dc low each byte begins a command, with dc high the bytes are data. CS release comes last.

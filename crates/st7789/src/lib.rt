@@ -11,6 +11,7 @@ use pixels::Span;
 use status::Status;
 
 mod command;
+mod current;
 mod data;
 mod entries;
 mod refusals;

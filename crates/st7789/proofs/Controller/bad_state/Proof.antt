@@ -1,45 +1,98 @@
-use Rattle.st7789.proofs.Tests.{bad-early, bad-counts, bad-late, counts-within}
+use Prim.Native.Nat.{_-_}
+use mathlib.Core.Path.{_≡_}
+use native.Mathlib.Omega.{arith}
 use borrow.Author.Needs.{needs}
+use borrow.Author.Tests.{lt-ltb, le-ltb}
+use lib.ListN.{length, length-take}
+use lib.Seq.{getD-take}
+use Rattle.lists.specs.Fixed.{used}
+use Rattle.lists.specs.Entries.{recordLong}
+use Rattle.lists.specs.declared.TraceRecord.{TraceRecord}
+use Rattle.lists.proofs.TraceRecord as traceRecord
+use Rattle.lists.proofs.Scanning.{unmapped, Scan, scan-first, found, scan-next, ended}
+use Rattle.st7789.specs.Data.{noRecord}
+use Rattle.st7789.specs.Parts.{traceOf}
+use Rattle.st7789.proofs.Tests.{bad-early, traced-within, bad-record, bad-late}
 use Rattle.st7789.proofs.Controller.bad_state.Statement.{statement}
 use Rattle.st7789.proofs.Controller.bad_state.Tie as tie
 
-window-bad-requires : tie.Need-window-bad-requires
-window-bad-requires c κs = search needs
+abbrev Inv-loop : tie.InvT-loop
+Inv-loop self bad long span n i₀ i = Scan recordLong (used (traceOf self)) n i
 
-pointer-bad-requires : tie.Need-pointer-bad-requires
-pointer-bad-requires c κs = search needs
+abbrev μ-loop : tie.MeasureT-loop
+μ-loop self bad long span n i₀ i = n - i
 
-stored-long-requires : tie.Need-stored-long-requires
+chip-bad-requires : tie.Need-chip-bad-requires Inv-loop μ-loop
+chip-bad-requires c κs = search needs
+
+stored-long-requires : tie.Need-stored-long-requires Inv-loop μ-loop
 stored-long-requires c κs = search needs
 
-returns : tie.Need-returns
-returns c = bad-early _ _ _ _ (c .before .before .before .before .window-bad .ensures) (c .before .before .before .pointer-bad .ensures) (c .before .before .stored-long .ensures) (c .if1 .taken)
-
-returns-2 : tie.Need-returns-2
-returns-2 c = bad-counts _ _ _ _ (c .before .before .before .before .before .before .before .window-bad .ensures) (c .before .before .before .before .before .before .pointer-bad .ensures) (c .before .before .before .before .before .stored-long .ensures) (c .before .before .before .if1 .left) (c .if2 .taken)
-
-records-long-requires : tie.Need-records-long-requires
-records-long-requires c κs = counts-within (c .before .before .before .before .before .before .before .before .before .before .before .before .before .before .before .before .args .self) (c .if2 .left)
-
-span-bad-requires : tie.Need-span-bad-requires
+span-bad-requires : tie.Need-span-bad-requires Inv-loop μ-loop
 span-bad-requires c κs = search needs
 
-current-bad-requires : tie.Need-current-bad-requires
-current-bad-requires c κs = counts-within (c .before .before .before .before .before .before .before .before .before .before .before .before .before .before .before .before .before .before .args .self) (c .before .before .if2 .left)
+returns : tie.Need-returns Inv-loop μ-loop
+returns c = bad-early _ _ _ _ (c .before .before .before .before .before .chip-bad .ensures) (c .before .before .before .stored-long .ensures) (c .before .span-bad .ensures) (c .if1 .taken)
 
-returns-3 : tie.Need-returns-3
-returns-3 c = bad-late _ _ _ _ (c .before .before .before .before .before .before .before .before .before .before .window-bad .ensures) (c .before .before .before .before .before .before .before .before .before .pointer-bad .ensures) (c .before .before .before .before .before .before .before .before .stored-long .ensures) (c .before .before .before .before .before .before .if1 .left) _ _ _ (c .before .before .before .if2 .left) (c .before .before .records-long .ensures) (c .before .span-bad .ensures) (c .current-bad .ensures)
+wide-requires : tie.Need-wide-requires Inv-loop μ-loop
+wide-requires c κs = search needs
+
+loop-holds : tie.Need-loop-holds Inv-loop μ-loop
+loop-holds c = let s = c .before .before .before .before .before .before .before .before .args .t1 in let h : length (s .records) ≡ 128 = unmapped TraceRecord (traceRecord.the-field .row .Denot) (traceRecord.the-field .into) (s .records) 128 (c .before .before .before .before .before .before .before .before .good .0 .1 .1 .1 .1 .1 .1 .1 .1 .1 .0 .1 .0 .1) in scan-first (rw length-take (omega (arith, c .wide .ensures, traced-within s _ _ _ (c .before .before .before .before .before .before .chip-bad .ensures) (c .before .before .before .before .stored-long .ensures) (c .before .before .span-bad .ensures) (c .before .if1 .left), h)))
+
+mul-if2 : tie.Need-mul-if2 Inv-loop μ-loop
+mul-if2 c = let h = traced-within (c .before .before .before .before .before .before .before .before .before .before .args .t1) _ _ _ (c .before .before .before .before .before .before .before .before .chip-bad .ensures) (c .before .before .before .before .before .before .stored-long .ensures) (c .before .before .before .before .span-bad .ensures) (c .before .before .before .if1 .left) in omega (arith, c .before .before .wide .ensures, h, c .loop-test .taken)
+
+element-copy-out-if2 : tie.Need-element-copy-out-if2 Inv-loop μ-loop
+element-copy-out-if2 c = let h = traced-within (c .before .before .before .before .before .before .before .before .before .before .args .t1) _ _ _ (c .before .before .before .before .before .before .before .before .chip-bad .ensures) (c .before .before .before .before .before .before .stored-long .ensures) (c .before .before .before .before .span-bad .ensures) (c .before .before .before .if1 .left) in omega (arith, c .before .before .wide .ensures, h, c .loop-test .taken)
+
+returns-2 : tie.Need-returns-2 Inv-loop μ-loop
+returns-2 c = let s = c .before .before .before .before .before .before .before .before .before .before .before .args .t1 in let l = c .before .before .loop in bad-record s _ _ _ (c .before .before .before .before .before .before .before .before .before .chip-bad .ensures) (c .before .before .before .before .before .before .before .stored-long .ensures) (c .before .before .before .before .before .span-bad .ensures) (c .before .before .before .before .if1 .left) (found (l .inv) noRecord (c .before .loop-test .taken) (rw (getD-take (s .logs .traced) (s .records) (l .i) noRecord (omega (arith, c .before .before .before .wide .ensures, c .before .loop-test .taken))) (lt-ltb _ _ (c .if2 .taken))))
+
+add-i : tie.Need-add-i Inv-loop μ-loop
+add-i c = search needs
+
+loop-less : tie.Need-loop-less Inv-loop μ-loop
+loop-less c = search needs
+
+loop-again : tie.Need-loop-again Inv-loop μ-loop
+loop-again c = let s = c .before .before .before .before .before .before .before .before .before .before .before .args .t1 in let l = c .before .before .loop in scan-next (l .inv) noRecord (c .before .loop-test .taken) (rw (getD-take (s .logs .traced) (s .records) (l .i) noRecord (omega (arith, c .before .before .before .wide .ensures, c .before .loop-test .taken))) (le-ltb _ _ (c .if2 .left)))
+
+place-requires : tie.Need-place-requires Inv-loop μ-loop
+place-requires c κs = search needs
+
+mul-record : tie.Need-mul-record Inv-loop μ-loop
+mul-record c = search needs
+
+element-copy-out-record : tie.Need-element-copy-out-record Inv-loop μ-loop
+element-copy-out-record c = search needs
+
+current-bad-requires : tie.Need-current-bad-requires Inv-loop μ-loop
+current-bad-requires c κs = search needs
+
+returns-3 : tie.Need-returns-3 Inv-loop μ-loop
+returns-3 c = bad-late _ _ _ _ (c .before .before .before .before .before .before .before .before .before .before .before .before .before .before .chip-bad .ensures) (c .before .before .before .before .before .before .before .before .before .before .before .before .stored-long .ensures) (c .before .before .before .before .before .before .before .before .before .before .span-bad .ensures) (c .before .before .before .before .before .before .before .before .before .if1 .left) _ _ (ended (c .before .before .before .before .before .before .before .loop .inv) (c .before .before .before .before .before .before .loop-test .left)) (c .before .before .before .before .place .ensures .0) (c .current-bad .ensures)
 
 pub bad-state-spec : {M : Type 1} → statement M
 bad-state-spec =
     tie.close
     (tie.spec
-    window-bad-requires
-    pointer-bad-requires
+    Inv-loop
+    μ-loop
+    chip-bad-requires
     stored-long-requires
-    returns
-    returns-2
-    records-long-requires
     span-bad-requires
+    returns
+    wide-requires
+    loop-holds
+    mul-if2
+    element-copy-out-if2
+    returns-2
+    add-i
+    loop-less
+    loop-again
+    place-requires
+    mul-record
+    element-copy-out-record
     current-bad-requires
     returns-3)

@@ -10,7 +10,7 @@ same-length : tie.Need-same-length
 same-length c = search needs
 
 returns : tie.Need-returns
-returns c = let a = c .before .before .before .before .before .before .before .before .before .args in (data-run (a .self) (a .bytes .now) (c .before .before .before .before .if1 .taken) (c .before .before .write-pixels .ensures .0), stores-run (a .self) (a .bytes .now) (a .memory .now) (c .before .before .before .before .if1 .taken) (c .before .before .write-pixels .ensures .1))
+returns c = let a = c .before .before .before .before .before .before .before .args in (data-run (a .self) (a .bytes .now) (c .before .before .before .before .if1 .taken) (c .before .before .write-pixels .ensures .0), stores-run (a .self) (a .bytes .now) (a .memory .now) (c .before .before .before .before .if1 .taken) (c .before .before .write-pixels .ensures .1))
 
 enum-told : tie.Need-enum-told
 enum-told c = search needs
@@ -22,10 +22,10 @@ take-params-requires : tie.Need-take-params-requires
 take-params-requires c κs = search needs
 
 returns-2 : tie.Need-returns-2
-returns-2 c = let a = c .before .before .before .before .before .before .before .args in (data-lost (a .self) (a .bytes .now) (c .before .before .if1 .left) (c .enum-told .given .1), stores-none (a .self) (a .bytes .now) (a .memory .now) (c .before .before .if1 .left))
+returns-2 c = let a = c .before .before .before .before .before .before .args in (data-lost (a .self) (a .bytes .now) (c .before .before .before .if1 .left) (c .enum-told .given .1), stores-none (a .self) (a .bytes .now) (a .memory .now) (c .before .before .before .if1 .left))
 
 returns-3 : tie.Need-returns-3
-returns-3 c = let a = c .before .before .before .before .before .before .before .before .before .args in (data-for (a .self) (a .bytes .now) (c .before .before .before .before .if1 .left) (c .before .before .cmd .given .1) (c .take-params .ensures), stores-none (a .self) (a .bytes .now) (a .memory .now) (c .before .before .before .before .if1 .left))
+returns-3 c = let a = c .before .before .before .before .before .before .before .before .args in (data-for (a .self) (a .bytes .now) (c .before .before .before .before .before .if1 .left) (c .before .before .cmd .given .1) (c .take-params .ensures), stores-none (a .self) (a .bytes .now) (a .memory .now) (c .before .before .before .before .before .if1 .left))
 
 pub data-spec : {M : Type 1} → statement M
 data-spec =

@@ -6,32 +6,32 @@ use Rattle.st7789.proofs.Controller.decode.Tie as tie
 data-requires : tie.Need-data-requires
 data-requires c κs = search needs
 
-release-if-requires : tie.Need-release-if-requires
-release-if-requires c κs = search needs
+release-requires : tie.Need-release-requires
+release-requires c κs = search needs
 
 same-length : tie.Need-same-length
 same-length c = search needs
 
 returns : tie.Need-returns
-returns c = let a = c .before .before .before .before .before .before .before .before .args in (moved-data (a .t) (a .bytes .now) (a .«cs-release») (a .self) (c .release-if .ensures) (c .before .before .before .before .before .if1 .taken) (c .before .before .before .«data» .ensures .0), stored-data (a .bytes .now) (a .memory .now) (a .self) (c .before .before .before .before .before .if1 .taken) (c .before .before .before .«data» .ensures .1))
+returns c = let a = c .before .before .before .before .before .before .before .before .args in (moved-data (a .t) (a .bytes .now) (a .«cs-release») (a .self) (c .release .ensures) (c .before .before .before .before .before .if1 .taken) (c .before .before .before .«data» .ensures .0), stored-data (a .bytes .now) (a .memory .now) (a .self) (c .before .before .before .before .before .if1 .taken) (c .before .before .before .«data» .ensures .1))
 
-commands-requires : tie.Need-commands-requires
-commands-requires c κs = search needs
+begin-commands-requires : tie.Need-begin-commands-requires
+begin-commands-requires c κs = search needs
 
-release-if-requires-2 : tie.Need-release-if-requires-2
-release-if-requires-2 c κs = search needs
+release-requires-2 : tie.Need-release-requires-2
+release-requires-2 c κs = search needs
 
 returns-2 : tie.Need-returns-2
-returns-2 c = let a = c .before .before .before .before .before .args in (moved-commands (a .t) (a .bytes .now) (a .«cs-release») (a .self) (c .release-if2 .ensures) (c .before .before .if1 .left) (c .before .commands .ensures), stored-none (a .bytes .now) (a .memory .now) (a .self) (c .before .before .if1 .left))
+returns-2 c = let a = c .before .before .before .before .before .args in (moved-commands (a .t) (a .bytes .now) (a .«cs-release») (a .self) (c .release2 .ensures) (c .before .before .if1 .left) (c .before .begin-commands .ensures), stored-none (a .bytes .now) (a .memory .now) (a .self) (c .before .before .if1 .left))
 
 pub decode-spec : {M : Type 1} → statement M
 decode-spec =
     tie.close
     (tie.spec
     data-requires
-    release-if-requires
+    release-requires
     same-length
     returns
-    commands-requires
-    release-if-requires-2
+    begin-commands-requires
+    release-requires-2
     returns-2)

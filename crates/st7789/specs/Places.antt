@@ -1,0 +1,42 @@
+-- How the code looks at the current record, at a place that the list always has, and the logs of a begun command.
+use Prim.Native.Nat.{ℕ, _+_}
+use mathlib.Core.Bool.{Bool, false, cond, not, _||_}
+use lib.Dec.{ltb, eqb}
+use Rattle.lists.specs.Params.{differ}
+use Rattle.lists.specs.declared.Params.{Params}
+use Rattle.lists.specs.declared.TraceRecord.{TraceRecord}
+use Rattle.lists.specs.declared.Current.{Current}
+use Rattle.lists.specs.declared.Current.the-variants.{Nothing, At}
+use Rattle.st7789.specs.declared.Logs.{Logs}
+
+-- The place of entry n, the first one where there is none.
+abbrev pub slotOf : ℕ → ℕ
+slotOf n = cond (ltb n 128) n 0
+
+abbrev pub currentSlot : Current → ℕ
+currentSlot Nothing = 0
+currentSlot (At i) = slotOf i
+
+-- Whether the record is not the last of n, or its parameters p differ from those in force, q.
+abbrev pub wrongFor : Current → ℕ → Params → Params → Bool
+wrongFor Nothing n p q = false
+wrongFor (At i) n p q = not (eqb (i + 1) n) || differ p q
+
+-- The pixel bytes n of the record that stands at the place, 0 where none is current.
+abbrev pub heldFor : Current → ℕ → ℕ
+heldFor Nothing n = 0
+heldFor (At i) n = n
+
+-- The record that stands at the place, changed where it is current.
+abbrev pub ifCurrent : (TraceRecord → TraceRecord) → Current → TraceRecord → TraceRecord
+ifCurrent f Nothing r = r
+ifCurrent f (At i) r = f r
+
+-- A record more, which is current, or none where there is no room.
+abbrev pub logsBegun : Logs → Logs
+logsBegun l =
+    record {
+      traced = cond (ltb (l .traced) 128) (l .traced + 1) (l .traced);
+      warned = l .warned;
+      current = cond (ltb (l .traced) 128) (At (l .traced)) Nothing;
+    }

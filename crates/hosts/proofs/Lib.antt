@@ -1,2 +1,5 @@
 pub mod Cuts
 pub mod Twins
+pub mod Spans
+pub mod Moments
+pub mod Hosts

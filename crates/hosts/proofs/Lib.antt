@@ -3,3 +3,4 @@ pub mod Twins
 pub mod Spans
 pub mod Moments
 pub mod Hosts
+pub mod Instance

@@ -1,0 +1,60 @@
+-- The two hosts of the instance meet every premise of demand 3, by computing their calls.
+use Prim.Native.Nat.{ℕ}
+use mathlib.Core.Path.{_≡_, refl}
+use mathlib.Core.Bool.{Bool, true, _&&_}
+use mathlib.Core.List.{List, [], _∷_}
+use borrow.Author.Tests.{eqb-true}
+use lib.Dec.{eqb}
+use lib.ListN.{getD}
+use Rattle.geometry.specs.Place.{mapOf, outcome, next}
+use Rattle.pixels.specs.Run.{stores, walkAfter, pixelsCounted}
+use Rattle.pixels.specs.declared.Span.the-variants.{Rows}
+use Rattle.lists.proofs.Bools.{both}
+use Rattle.lists.specs.Params.{filled, differ}
+use Rattle.timing.specs.Lint.{brokenBy, timesAfter}
+use Rattle.chip.specs.Begin.{freshChip, chipBegun, chipReleased}
+use Rattle.chip.specs.Apply.{appliedIfDue, chipTaken}
+use Rattle.st7789.specs.Command.{begun, released}
+use Rattle.st7789.specs.Data.{ran, taken}
+use Rattle.st7789.specs.Refusals.{badState, countHigh, transferRefusal}
+use Rattle.st7789.specs.Entries.{freshController, moved, transferred, transferMemory, resetState, resetMemory}
+use Rattle.publishing.specs.Publish.{publishRefusal, published, publishedFrame}
+use Rattle.hosts.specs.Calls.{Host, Call, Accepted, fresh, refusal, step, run, publish}
+use Rattle.hosts.specs.Hosts.{rest, part, between, Makes, done, besides, same, sends, Agree}
+use Rattle.hosts.specs.Instance.{plan, first, second}
+use Rattle.hosts.proofs.Hosts.{agreement}
+
+first-makes : Makes plan first
+first-makes =
+    same refl (same refl (besides refl (same refl (sends rest (besides refl (same refl (same refl (sends rest (besides refl
+    (same refl (same refl (sends rest (same refl (sends rest done))))))))))))))
+
+second-makes : Makes plan second
+second-makes =
+    same refl (same refl (same refl
+    (sends (part {bytes = 0xF8 ∷ []} (between refl (part {bytes = []} (part {bytes = 0x00 ∷ 0x07 ∷ []} (between refl rest)))))
+    (same refl (same refl (sends (part {bytes = 0x05 ∷ []} rest) (same refl (same refl
+    (sends (part {bytes = 0x00 ∷ 0x09 ∷ 0x01 ∷ []} (between refl rest))
+    (besides refl (same refl (sends rest (besides refl done)))))))))))))
+
+-- No call is refused, as one computed test.
+abbrev passes : Host → List Call → Bool
+passes h [] = true
+passes h (c ∷ calls) = eqb (refusal h c) 0 && passes (step h c) calls
+
+passed : (h : Host) (calls : List Call) → passes h calls ≡ true → Accepted h calls
+passed h [] e = tt
+passed h (c ∷ calls) e =
+    let b = both (eqb (refusal h c) 0) (passes (step h c) calls) e in
+    (eqb-true (refusal h c) 0 (b .0), passed (step h c) calls (b .1))
+
+first-passes : passes (fresh true) first ≡ true
+unfolding mapOf outcome next stores walkAfter pixelsCounted filled differ brokenBy timesAfter freshChip chipBegun chipReleased appliedIfDue chipTaken begun released ran taken badState countHigh transferRefusal freshController moved transferred transferMemory resetState resetMemory publishRefusal published publishedFrame refusal step
+first-passes = refl
+
+second-passes : passes (fresh true) second ≡ true
+unfolding mapOf outcome next stores walkAfter pixelsCounted filled differ brokenBy timesAfter freshChip chipBegun chipReleased appliedIfDue chipTaken begun released ran taken badState countHigh transferRefusal freshController moved transferred transferMemory resetState resetMemory publishRefusal published publishedFrame refusal step
+second-passes = refl
+
+pub agreed : Agree (step (run (fresh true) first) publish) (step (run (fresh true) second) publish)
+agreed = agreement true plan first second first-makes second-makes (passed (fresh true) first first-passes) (passed (fresh true) second second-passes)

@@ -19,10 +19,10 @@ use Rattle.st7789.specs.Data.{ran, taken}
 use Rattle.st7789.specs.Refusals.{badState, countHigh, transferRefusal}
 use Rattle.st7789.specs.Entries.{freshController, moved, transferred, transferMemory, resetState, resetMemory}
 use Rattle.publishing.specs.Publish.{publishRefusal, published, publishedFrame}
-use Rattle.hosts.specs.Calls.{Host, Call, Accepted, fresh, refusal, step, run, publish}
-use Rattle.hosts.specs.Hosts.{rest, part, between, Makes, done, besides, same, sends, Agree}
-use Rattle.hosts.specs.Instance.{plan, first, second}
-use Rattle.hosts.proofs.Hosts.{agreement}
+use Rattle.hosts.specs.Calls.{Host, Call, Accepted, fresh, refusal, step}
+use Rattle.hosts.specs.Hosts.{rest, part, between, Makes, done, besides, same, sends, noted, Demand3}
+use Rattle.hosts.specs.Instance.{plan, first, second, leftOver}
+use Rattle.hosts.proofs.Hosts.{two-hosts}
 
 first-makes : Makes plan first
 first-makes =
@@ -56,5 +56,14 @@ second-passes : passes (fresh true) second ≡ true
 unfolding mapOf outcome next stores walkAfter pixelsCounted filled differ brokenBy timesAfter freshChip chipBegun chipReleased appliedIfDue chipTaken begun released ran taken badState countHigh transferRefusal freshController moved transferred transferMemory resetState resetMemory publishRefusal published publishedFrame refusal step
 second-passes = refl
 
-pub agreed : Agree (step (run (fresh true) first) publish) (step (run (fresh true) second) publish)
-agreed = agreement true plan first second first-makes second-makes (passed (fresh true) first first-passes) (passed (fresh true) second second-passes)
+pub first-and-second : Demand3 true first second
+first-and-second =
+    two-hosts true plan first second first-makes second-makes (passed (fresh true) first first-passes) (passed (fresh true) second second-passes)
+
+first-left : leftOver first ≡ true
+unfolding mapOf outcome next stores walkAfter pixelsCounted filled differ brokenBy timesAfter freshChip chipBegun chipReleased appliedIfDue chipTaken begun released ran taken badState countHigh transferRefusal freshController moved transferred transferMemory resetState resetMemory publishRefusal published publishedFrame refusal step noted
+first-left = refl
+
+second-left : leftOver second ≡ true
+unfolding mapOf outcome next stores walkAfter pixelsCounted filled differ brokenBy timesAfter freshChip chipBegun chipReleased appliedIfDue chipTaken begun released ran taken badState countHigh transferRefusal freshController moved transferred transferMemory resetState resetMemory publishRefusal published publishedFrame refusal step noted
+second-left = refl

@@ -28,7 +28,7 @@ use Rattle.publishing.specs.Publish.{spanCopied, inSpan, publishRefusal, publis
 use Rattle.publishing.proofs.Refusing.{none-bad}
 use Rattle.publishing.proofs.Rows.{frame-is-memory}
 use Rattle.hosts.specs.Calls.{Host, Call, commands, segment, publish, reset, markAll, power, shows, brightness, pixel, view, row, compare, fresh, refusal, step, run, Accepted}
-use Rattle.hosts.specs.Hosts.{Since, nothingSince, noted, sinceFrom, since, rowIn, Moment, EveryMoment, LastPublish}
+use Rattle.hosts.specs.Hosts.{Since, nothingSince, noted, sinceFrom, since, rowIn, EveryMoment}
 use Rattle.hosts.proofs.Twins.{taken-on}
 use Rattle.hosts.proofs.Spans.{Fits, stores-fit, all-fit}
 
@@ -216,15 +216,15 @@ accepted-front : (h : Host) (made left : List Call) → Accepted h (made ++ left
 accepted-front h [] left a = tt
 accepted-front h (c ∷ made) left a = (a .0, accepted-front (step h c) made left (a .1))
 
-pub every-moment : EveryMoment
-every-moment on made left a =
+pub every-moment : (on : Bool) (calls : List Call) → Accepted (fresh on) calls → EveryMoment on calls
+every-moment on calls a made left e =
     record { differing = λ r n. go r n (inSpan r (h .controller .marks .dirty)) refl; span = v .marks }
   where
     h : Host
     h = run (fresh on) made
 
     v : HostFits h (since on made)
-    v = end-fits on made (accepted-front (fresh on) made left a)
+    v = end-fits on made (accepted-front (fresh on) made left (rw e at a))
 
     go :
         (r : ℕ) → (rowIn r (h .frame) ≡ rowIn r (h .memory) → ⊥) → (b : Bool) → inSpan r (h .controller .marks .dirty) ≡ b →
@@ -232,7 +232,8 @@ every-moment on made left a =
     go r n true e = e
     go r n false e = absurd (n (row-same r h (since on made) v e))
 
-pub last-publish : LastPublish
+-- A publish is not refused.
+pub last-publish : (on : Bool) (calls : List Call) → Accepted (fresh on) calls → refusal (run (fresh on) calls) publish ≡ 0
 unfolding refusal
 last-publish on calls a =
     let v = end-fits on calls a in

@@ -49,6 +49,16 @@ pub data Makes : List Call → List Call → Type 0 where
       {t : ℕ} {bytes : List ℕ} {cs : Bool} {agreed parts calls : List Call} → Parts cs bytes parts → Makes agreed calls →
       Makes (segment t bytes cs ∷ agreed) (parts ++ calls)
 
+-- The calls of a host without those that are free.
+abbrev pub unlessFree : Role → Call → List Call → List Call
+unlessFree shared c calls = c ∷ calls
+unlessFree cut c calls = c ∷ calls
+unlessFree free c calls = calls
+
+abbrev pub owed : List Call → List Call
+owed [] = []
+owed (c ∷ calls) = unlessFree (role c) c (owed calls)
+
 -- "every row stored to since the last publish", and whether "a board-rail reset or a mark-all" came "since then": from the calls, and
 -- from what each data segment stores in the state that it meets.
 pub record Since : Type 0 where
@@ -103,24 +113,32 @@ pub record Moment (h : Host) (s : Since) : Type 0 where
   pub differing : (r : ℕ) → (rowIn r (h .frame) ≡ rowIn r (h .memory) → ⊥) → inSpan r (h .controller .marks .dirty) ≡ true
   pub span : Marked (h .controller .marks .dirty) s
 
--- "After all these calls and then a last publish at each, both frames equal both panel memories, and registers, trace, warnings and counts
--- agree": the controllers are equal whole.
+-- "both frames equal both panel memories, and registers, trace, warnings and counts agree": the controllers are equal whole.
 pub record Agree (a b : Host) : Type 0 where
   pub frame-a : a .frame ≡ a .memory
   pub frame-b : b .frame ≡ b .memory
   pub memory : a .memory ≡ b .memory
   pub controller : a .controller ≡ b .controller
 
-abbrev pub Agreement : Type 0
-Agreement =
+-- "At every moment": after the calls `made`, whichever are left.
+abbrev pub EveryMoment : Bool → List Call → Type 0
+EveryMoment on calls = (made left : List Call) → calls ≡ made ++ left → Moment (run (fresh on) made) (since on made)
+
+-- What demand 3 promises of two hosts. The last publishes are no calls of theirs: that these are not refused is promised too.
+pub record Demand3 (on : Bool) (us vs : List Call) : Type 0 where
+  pub last-a : refusal (run (fresh on) us) publish ≡ 0
+  pub last-b : refusal (run (fresh on) vs) publish ≡ 0
+  pub agree : Agree (step (run (fresh on) us) publish) (step (run (fresh on) vs) publish)
+  pub moments-a : EveryMoment on us
+  pub moments-b : EveryMoment on vs
+
+-- Either host may cut.
+abbrev pub TwoHosts : Type 0
+TwoHosts =
     (on : Bool) (agreed us vs : List Call) → Makes agreed us → Makes agreed vs → Accepted (fresh on) us → Accepted (fresh on) vs →
-    Agree (step (run (fresh on) us) publish) (step (run (fresh on) vs) publish)
+    Demand3 on us vs
 
--- "No call is refused" is asked of the calls before it: the last publish never is.
-abbrev pub LastPublish : Type 0
-LastPublish = (on : Bool) (calls : List Call) → Accepted (fresh on) calls → refusal (run (fresh on) calls) publish ≡ 0
-
--- "At every moment": after the calls `made`, whatever calls are left.
-abbrev pub EveryMoment : Type 0
-EveryMoment =
-    (on : Bool) (made left : List Call) → Accepted (fresh on) (made ++ left) → Moment (run (fresh on) made) (since on made)
+-- "One cuts": the agreed calls are those of the first host, without what is free.
+abbrev pub OneCuts : Type 0
+OneCuts =
+    (on : Bool) (us vs : List Call) → Makes (owed us) vs → Accepted (fresh on) us → Accepted (fresh on) vs → Demand3 on us vs

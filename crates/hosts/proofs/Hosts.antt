@@ -32,7 +32,7 @@ pub two-hosts : TwoHosts
 unfolding step
 two-hosts on agreed us vs mu mv au av =
     let e : bare (run (fresh on) us) ≡ bare (run (fresh on) vs) =
-        run-does (fresh on) us au ∙ makes-does mu (bare (fresh on)) ∙ sym (makes-does mv (bare (fresh on))) ∙ sym (run-does (fresh on) vs av) in
+    run-does (fresh on) us au ∙ makes-does mu (bare (fresh on)) ∙ sym (makes-does mv (bare (fresh on))) ∙ sym (run-does (fresh on) vs av) in
     record {
       last-a = last-publish on us au;
       last-b = last-publish on vs av;

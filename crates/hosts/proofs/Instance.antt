@@ -1,14 +1,11 @@
 -- The two hosts of the instance meet every premise of demand 3, by computing their calls.
-use Prim.Native.Nat.{ℕ}
 use mathlib.Core.Path.{_≡_, refl}
 use mathlib.Core.Bool.{Bool, true, _&&_}
 use mathlib.Core.List.{List, [], _∷_}
 use borrow.Author.Tests.{eqb-true}
 use lib.Dec.{eqb}
-use lib.ListN.{getD}
 use Rattle.geometry.specs.Place.{mapOf, outcome, next}
 use Rattle.pixels.specs.Run.{stores, walkAfter, pixelsCounted}
-use Rattle.pixels.specs.declared.Span.the-variants.{Rows}
 use Rattle.lists.proofs.Bools.{both}
 use Rattle.lists.specs.Params.{filled, differ}
 use Rattle.timing.specs.Lint.{brokenBy, timesAfter}
@@ -48,22 +45,23 @@ passed h (c ∷ calls) e =
     let b = both (eqb (refusal h c) 0) (passes (step h c) calls) e in
     (eqb-true (refusal h c) 0 (b .0), passed (step h c) calls (b .1))
 
+-- One name that opens every definition, for what is computed.
+unfoldable opened : Bool
+unfolding mapOf outcome next stores walkAfter pixelsCounted filled differ brokenBy timesAfter freshChip chipBegun chipReleased appliedIfDue chipTaken begun released ran taken badState countHigh transferRefusal freshController moved transferred transferMemory resetState resetMemory publishRefusal published publishedFrame refusal step noted
+opened = true
+
 first-passes : passes (fresh true) first ≡ true
-unfolding mapOf outcome next stores walkAfter pixelsCounted filled differ brokenBy timesAfter freshChip chipBegun chipReleased appliedIfDue chipTaken begun released ran taken badState countHigh transferRefusal freshController moved transferred transferMemory resetState resetMemory publishRefusal published publishedFrame refusal step
+unfolding opened
 first-passes = refl
 
 second-passes : passes (fresh true) second ≡ true
-unfolding mapOf outcome next stores walkAfter pixelsCounted filled differ brokenBy timesAfter freshChip chipBegun chipReleased appliedIfDue chipTaken begun released ran taken badState countHigh transferRefusal freshController moved transferred transferMemory resetState resetMemory publishRefusal published publishedFrame refusal step
+unfolding opened
 second-passes = refl
 
 pub first-and-second : Demand3 true first second
 first-and-second =
     two-hosts true plan first second first-makes second-makes (passed (fresh true) first first-passes) (passed (fresh true) second second-passes)
 
-first-left : leftOver first ≡ true
-unfolding mapOf outcome next stores walkAfter pixelsCounted filled differ brokenBy timesAfter freshChip chipBegun chipReleased appliedIfDue chipTaken begun released ran taken badState countHigh transferRefusal freshController moved transferred transferMemory resetState resetMemory publishRefusal published publishedFrame refusal step noted
-first-left = refl
-
 second-left : leftOver second ≡ true
-unfolding mapOf outcome next stores walkAfter pixelsCounted filled differ brokenBy timesAfter freshChip chipBegun chipReleased appliedIfDue chipTaken begun released ran taken badState countHigh transferRefusal freshController moved transferred transferMemory resetState resetMemory publishRefusal published publishedFrame refusal step noted
+unfolding opened
 second-left = refl

@@ -5,9 +5,8 @@ use mathlib.Core.Bool.{Bool, true, false, cond, _&&_, _||_}
 use mathlib.Core.List.{List, [], _∷_, _++_, map, append-nil, List·Memᴰ, List·Memᴰ·not-nil}
 use native.Mathlib.Omega.{arith}
 use lib.Dec.{eqb}
-use lib.ListN.{length, getD, take, drop, replicate, length-replicate, length-take, length-drop}
+use lib.ListN.{length, getD, drop, replicate, length-replicate, length-take, length-drop}
 use lib.Seq.{ext-getD, getD-take, getD-drop}
-use Rattle.status.specs.Numbers.{unlessRefused}
 use Rattle.status.specs.Tests.{memoryRefusal}
 use Rattle.pixels.specs.Run.{Store, stores, written, rowOf, marked}
 use Rattle.pixels.specs.Spans.{zeroed, spanBad}
@@ -24,7 +23,7 @@ use Rattle.st7789.specs.Entries.{freshController, railReset, moved, transferred
 use Rattle.st7789.specs.declared.Controller.{Controller}
 use Rattle.laws.proofs.Stays.{Good, here}
 use Rattle.laws.proofs.Reach.{good-not-bad, transferred-good, fresh-good, powered-good, shows-good, brightness-good, marked-good, reset-good}
-use Rattle.publishing.specs.Publish.{spanCopied, inSpan, publishRefusal, published, publishedFrame}
+use Rattle.publishing.specs.Publish.{spanCopied, inSpan, published, publishedFrame}
 use Rattle.publishing.proofs.Refusing.{none-bad}
 use Rattle.publishing.proofs.Rows.{frame-is-memory}
 use Rattle.hosts.specs.Calls.{Host, Call, commands, segment, publish, reset, markAll, power, shows, brightness, pixel, view, row, compare, fresh, refusal, step, run, Accepted}
@@ -150,7 +149,7 @@ step-fits h s (segment t bytes cs) e g v = transfer-fits t true bytes cs h s e v
 step-fits h s publish e g v =
     let n = refusal h publish in
     let f : publishedFrame n (h .controller) (h .memory) (h .frame) ≡ h .memory =
-        taken-on n (spanCopied (h .controller .marks .dirty) (h .memory) (h .frame)) (h .frame) e ∙ copied-whole h s g v in
+    taken-on n (spanCopied (h .controller .marks .dirty) (h .memory) (h .frame)) (h .frame) e ∙ copied-whole h s g v in
     span-as refl (ap (λ c. c .marks .dirty) (taken-on n (withDirty Span.Nothing (h .controller)) (h .controller) e))
     (record {
       memory-long = v .memory-long;
@@ -206,8 +205,8 @@ module _ (on : Bool) (calls : List Call) (a : Accepted (fresh on) calls) where
 row-same : (r : ℕ) (h : Host) (s : Since) → HostFits h s → inSpan r (h .controller .marks .dirty) ≡ false → rowIn r (h .frame) ≡ rowIn r (h .memory)
 row-same r h s v out =
     ext-getD 0 (rowIn r (h .frame)) (rowIn r (h .memory)) (simp (length-take, length-drop, v .frame-long, v .memory-long)) (λ i k.
-        let j : i < 240 = omega (arith, length-take 240 (drop (r * 240) (h .frame))) in
-        at (h .frame) i j ∙ v .alike r i j out ∙ sym (at (h .memory) i j))
+    let j : i < 240 = omega (arith, length-take 240 (drop (r * 240) (h .frame))) in
+    at (h .frame) i j ∙ v .alike r i j out ∙ sym (at (h .memory) i j))
   where
     at : (l : List ℕ) (i : ℕ) → i < 240 → getD (rowIn r l) i 0 ≡ getD l (r * 240 + i) 0
     at l i j = getD-take 240 (drop (r * 240) l) i 0 j ∙ getD-drop (r * 240) l i 0

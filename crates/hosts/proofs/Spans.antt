@@ -1,8 +1,8 @@
 -- The span is the smallest that holds the rows stored to, and outside it the frame is memory.
 use Prim.Native.Nat.{ℕ, _+_, _*_, _/_, _≤_, _<_, min, max}
-use mathlib.Core.Path.{_≡_, refl, sym, ap, ap₂, _∙_}
+use mathlib.Core.Path.{_≡_, refl, sym, ap₂, _∙_}
 use mathlib.Core.Logic.{⊎-elim}
-use mathlib.Core.Bool.{Bool, true, false, cond, _&&_, true≢false}
+use mathlib.Core.Bool.{Bool, true, false, _&&_, true≢false}
 use mathlib.Core.List.{List, [], _∷_, _++_, map, append-nil, List·Memᴰ, Memᴰ·append-left, Memᴰ·append-right, Memᴰ·cast, List·Memᴰ·head, List·Memᴰ·tail, List·Memᴰ·append-cases, List·Memᴰ·eq-of-singleton}
 use native.Mathlib.Omega.{arith}
 use borrow.Author.Tests.{leb-true, leb-false}
@@ -14,7 +14,7 @@ use Rattle.pixels.specs.Spans.{allRows}
 use Rattle.pixels.specs.declared.Span.{Span}
 use Rattle.pixels.specs.declared.Span.the-variants.{Nothing, Rows}
 use Rattle.publishing.specs.Publish.{inSpan}
-use Rattle.hosts.specs.Hosts.{Since, Smallest, Hull, Marked}
+use Rattle.hosts.specs.Hosts.{Since, Hull, Marked}
 
 -- THE SMALLEST SPAN
 
@@ -73,11 +73,10 @@ is-outside r f l n = go (leb f r) (leb r l) refl refl
 -- Outside a widened span is outside the span, and not in the row that widened it.
 out-mark : (r row : ℕ) (d : Span) → inSpan r (mark d row) ≡ false → (inSpan r d ≡ false) × (r ≡ row → ⊥)
 out-mark r row Nothing e = (refl, λ i. outside r row row e (omega arith) (omega arith))
-out-mark r row (Rows f l) e =
-    (
-      is-outside r f l (λ h k. outside r (min f row) (max l row) e (omega arith) (omega arith)),
-      λ i. outside r (min f row) (max l row) e (omega arith) (omega arith),
-    )
+out-mark r row (Rows f l) e = (
+  is-outside r f l (λ h k. outside r (min f row) (max l row) e (omega arith) (omega arith)),
+  λ i. outside r (min f row) (max l row) e (omega arith) (omega arith),
+)
 
 -- FRAME AND MEMORY
 

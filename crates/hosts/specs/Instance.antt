@@ -72,12 +72,11 @@ second =
     ∷ compare
     ∷ segment 5 (0x3F ∷ []) false
     ∷ publish
-    ∷ commands 8 (0x2C ∷ []) false
-    ∷ segment 6 (0x12 ∷ 0x34 ∷ []) false
+    ∷ commands 8 (0x2C ∷ []) false ∷ segment 6 (0x12 ∷ 0x34 ∷ []) false
     ∷ view Glass 76800
     ∷ []
 
--- What each leaves to its last publish: row 9, stored to since the publish before, and not yet in the frame.
+-- What the second leaves to its last publish: row 9, stored to since the publish before, and not yet in the frame.
 abbrev pub isRows : ℕ → ℕ → Span → Bool
 isRows f l Nothing = false
 isRows f l (Rows first last) = eqb first f && eqb last l

@@ -1,0 +1,67 @@
+-- The two hosts of the instance meet every premise of demand 3, by computing their calls.
+use mathlib.Core.Path.{_≡_, refl}
+use mathlib.Core.Bool.{Bool, true, _&&_}
+use mathlib.Core.List.{List, [], _∷_}
+use borrow.Author.Tests.{eqb-true}
+use lib.Dec.{eqb}
+use Rattle.geometry.specs.Place.{mapOf, outcome, next}
+use Rattle.pixels.specs.Run.{stores, walkAfter, pixelsCounted}
+use Rattle.lists.proofs.Bools.{both}
+use Rattle.lists.specs.Params.{filled, differ}
+use Rattle.timing.specs.Lint.{brokenBy, timesAfter}
+use Rattle.chip.specs.Begin.{freshChip, chipBegun, chipReleased}
+use Rattle.chip.specs.Apply.{appliedIfDue, chipTaken}
+use Rattle.st7789.specs.Command.{begun, released}
+use Rattle.st7789.specs.Data.{ran, taken}
+use Rattle.st7789.specs.Refusals.{badState, countHigh, transferRefusal}
+use Rattle.st7789.specs.Entries.{freshController, moved, transferred, transferMemory, resetState, resetMemory}
+use Rattle.publishing.specs.Publish.{publishRefusal, published, publishedFrame}
+use Rattle.hosts.specs.Calls.{Host, Call, Accepted, fresh, refusal, step}
+use Rattle.hosts.specs.Hosts.{rest, part, between, Makes, done, besides, same, sends, noted, Demand3}
+use Rattle.hosts.specs.Instance.{plan, first, second, leftOver}
+use Rattle.hosts.proofs.Hosts.{two-hosts}
+
+first-makes : Makes plan first
+first-makes =
+    same refl (same refl (besides refl (same refl (sends rest (besides refl (same refl (same refl (sends rest (besides refl
+    (same refl (same refl (sends rest (same refl (sends rest done))))))))))))))
+
+second-makes : Makes plan second
+second-makes =
+    same refl (same refl (same refl
+    (sends (part {bytes = 0xF8 ∷ []} (between refl (part {bytes = []} (part {bytes = 0x00 ∷ 0x07 ∷ []} (between refl rest)))))
+    (same refl (same refl (sends (part {bytes = 0x05 ∷ []} rest) (same refl (same refl
+    (sends (part {bytes = 0x00 ∷ 0x09 ∷ 0x01 ∷ []} (between refl rest))
+    (besides refl (same refl (sends rest (besides refl done)))))))))))))
+
+-- No call is refused, as one computed test.
+abbrev passes : Host → List Call → Bool
+passes h [] = true
+passes h (c ∷ calls) = eqb (refusal h c) 0 && passes (step h c) calls
+
+passed : (h : Host) (calls : List Call) → passes h calls ≡ true → Accepted h calls
+passed h [] e = tt
+passed h (c ∷ calls) e =
+    let b = both (eqb (refusal h c) 0) (passes (step h c) calls) e in
+    (eqb-true (refusal h c) 0 (b .0), passed (step h c) calls (b .1))
+
+-- One name that opens every definition, for what is computed.
+unfoldable opened : Bool
+unfolding mapOf outcome next stores walkAfter pixelsCounted filled differ brokenBy timesAfter freshChip chipBegun chipReleased appliedIfDue chipTaken begun released ran taken badState countHigh transferRefusal freshController moved transferred transferMemory resetState resetMemory publishRefusal published publishedFrame refusal step noted
+opened = true
+
+first-passes : passes (fresh true) first ≡ true
+unfolding opened
+first-passes = refl
+
+second-passes : passes (fresh true) second ≡ true
+unfolding opened
+second-passes = refl
+
+pub first-and-second : Demand3 true first second
+first-and-second =
+    two-hosts true plan first second first-makes second-makes (passed (fresh true) first first-passes) (passed (fresh true) second second-passes)
+
+second-left : leftOver second ≡ true
+unfolding opened
+second-left = refl

@@ -1,0 +1,144 @@
+-- Demand 3: the calls of two hosts, the rows stored to since a publish, and what holds of the two.
+use Prim.Native.Nat.{ℕ, _*_, _≤_}
+use mathlib.Core.Path.{_≡_}
+use mathlib.Core.Bool.{Bool, true, false, cond, _||_}
+use mathlib.Core.List.{List, [], _∷_, _++_, map, List·Memᴰ}
+use lib.ListN.{take, drop}
+use Rattle.pixels.specs.Run.{rowOf}
+use Rattle.pixels.specs.Spans.{allRows}
+use Rattle.pixels.specs.declared.Span.{Span}
+use Rattle.pixels.specs.declared.Span.the-variants.{Nothing, Rows}
+use Rattle.board.specs.Board.{isBoardRail}
+use Rattle.st7789.specs.Data.{storesIn}
+use Rattle.publishing.specs.Publish.{inSpan}
+use Rattle.hosts.specs.Calls.{Host, Call, commands, segment, publish, reset, markAll, power, shows, brightness, pixel, view, row, compare, fresh, refusal, step, run, Accepted}
+
+-- How the calls of two hosts go together: made by both alike, or sent by each in parts of its own, or made by either where it likes.
+-- "data times and the moments and number of publishes may also differ"; and so may those of the calls that only look.
+pub data Role : Type 0 where
+  shared cut free : Role
+
+abbrev pub role : Call → Role
+role (commands t bytes cs) = shared
+role (segment t bytes cs) = cut
+role publish = free
+role (reset domain) = shared
+role markAll = shared
+role (power on) = shared
+role (shows on) = shared
+role (brightness level scale duty) = shared
+role (pixel v x y) = free
+role (view v room) = free
+role (row m r) = free
+role compare = free
+
+-- "data segments [cut] into other parts, at least one each, any CS release on the last": the calls that send `bytes` so, each part at a
+-- time of its own and perhaps empty, with publishes and looks between.
+pub data Parts (cs : Bool) : List ℕ → List Call → Type 0 where
+  rest : {t : ℕ} {bytes : List ℕ} → Parts cs bytes (segment t bytes cs ∷ [])
+  part : {t : ℕ} {bytes more : List ℕ} {calls : List Call} → Parts cs more calls → Parts cs (bytes ++ more) (segment t bytes false ∷ calls)
+  between : {c : Call} {bytes : List ℕ} {calls : List Call} → role c ≡ free → Parts cs bytes calls → Parts cs bytes (c ∷ calls)
+
+-- "They make the same calls in the same order, .. command segments at the same times": a host that makes `calls` does what `agreed` says,
+-- with its own cuts, data times, publishes and looks.
+pub data Makes : List Call → List Call → Type 0 where
+  done : Makes [] []
+  besides : {c : Call} {agreed calls : List Call} → role c ≡ free → Makes agreed calls → Makes agreed (c ∷ calls)
+  same : {c : Call} {agreed calls : List Call} → role c ≡ shared → Makes agreed calls → Makes (c ∷ agreed) (c ∷ calls)
+  sends :
+      {t : ℕ} {bytes : List ℕ} {cs : Bool} {agreed parts calls : List Call} → Parts cs bytes parts → Makes agreed calls →
+      Makes (segment t bytes cs ∷ agreed) (parts ++ calls)
+
+-- The calls of a host without those that are free.
+abbrev pub unlessFree : Role → Call → List Call → List Call
+unlessFree shared c calls = c ∷ calls
+unlessFree cut c calls = c ∷ calls
+unlessFree free c calls = calls
+
+abbrev pub owed : List Call → List Call
+owed [] = []
+owed (c ∷ calls) = unlessFree (role c) c (owed calls)
+
+-- "every row stored to since the last publish", and whether "a board-rail reset or a mark-all" came "since then": from the calls, and
+-- from what each data segment stores in the state that it meets.
+pub record Since : Type 0 where
+  pub all : Bool
+  pub rows : List ℕ
+
+abbrev pub nothingSince : Since
+nothingSince = record { all = false; rows = [] }
+
+unfoldable pub noted : Host → Since → Call → Since
+noted h s (commands t bytes cs) = s
+noted h s (segment t bytes cs) = record { all = s .all; rows = s .rows ++ map rowOf (storesIn true bytes (h .controller)) }
+noted h s publish = nothingSince
+noted h s (reset domain) = record { all = isBoardRail domain || s .all; rows = s .rows }
+noted h s markAll = record { all = true; rows = s .rows }
+noted h s (power on) = s
+noted h s (shows on) = s
+noted h s (brightness level scale duty) = s
+noted h s (pixel v x y) = s
+noted h s (view v room) = s
+noted h s (row m r) = s
+noted h s compare = s
+
+abbrev pub sinceFrom : Host → Since → List Call → Since
+sinceFrom h s [] = s
+sinceFrom h s (c ∷ calls) = sinceFrom (step h c) (noted h s c) calls
+
+-- A fresh panel and an all-zero frame: nothing was stored, and nothing is to be copied.
+abbrev pub since : Bool → List Call → Since
+since on calls = sinceFrom (fresh on) nothingSince calls
+
+-- "the smallest holding every row": it holds each of them, and its first and its last are among them.
+pub record Smallest (first last : ℕ) (rows : List ℕ) : Type 0 where
+  pub holds : (r : ℕ) → List·Memᴰ r rows → (first ≤ r) × (r ≤ last)
+  pub first-among : List·Memᴰ first rows
+  pub last-among : List·Memᴰ last rows
+
+abbrev pub Hull : Span → List ℕ → Type 0
+Hull Nothing rows = rows ≡ []
+Hull (Rows first last) rows = Smallest first last rows
+
+-- "the span marked for copying: the smallest holding every row stored to since the last publish, or all 320 rows after a board-rail
+-- reset or a mark-all since then"
+abbrev pub Marked : Span → Since → Type 0
+Marked span s = cond (s .all) (span ≡ allRows) (Hull span (s .rows))
+
+abbrev pub rowIn : ℕ → List ℕ → List ℕ
+rowIn r memory = take 240 (drop (r * 240) memory)
+
+-- "the rows where frame and panel differ lie in the span marked for copying"
+pub record Moment (h : Host) (s : Since) : Type 0 where
+  pub differing : (r : ℕ) → (rowIn r (h .frame) ≡ rowIn r (h .memory) → ⊥) → inSpan r (h .controller .marks .dirty) ≡ true
+  pub span : Marked (h .controller .marks .dirty) s
+
+-- "both frames equal both panel memories, and registers, trace, warnings and counts agree": the controllers are equal whole.
+pub record Agree (a b : Host) : Type 0 where
+  pub frame-a : a .frame ≡ a .memory
+  pub frame-b : b .frame ≡ b .memory
+  pub memory : a .memory ≡ b .memory
+  pub controller : a .controller ≡ b .controller
+
+-- "At every moment": after the calls `made`, whichever are left.
+abbrev pub EveryMoment : Bool → List Call → Type 0
+EveryMoment on calls = (made left : List Call) → calls ≡ made ++ left → Moment (run (fresh on) made) (since on made)
+
+-- What demand 3 promises of two hosts. The last publishes are no calls of theirs: that these are not refused is promised too.
+pub record Demand3 (on : Bool) (us vs : List Call) : Type 0 where
+  pub last-a : refusal (run (fresh on) us) publish ≡ 0
+  pub last-b : refusal (run (fresh on) vs) publish ≡ 0
+  pub agree : Agree (step (run (fresh on) us) publish) (step (run (fresh on) vs) publish)
+  pub moments-a : EveryMoment on us
+  pub moments-b : EveryMoment on vs
+
+-- Either host may cut.
+abbrev pub TwoHosts : Type 0
+TwoHosts =
+    (on : Bool) (agreed us vs : List Call) → Makes agreed us → Makes agreed vs → Accepted (fresh on) us → Accepted (fresh on) vs →
+    Demand3 on us vs
+
+-- "One cuts": the agreed calls are those of the first host, without what is free.
+abbrev pub OneCuts : Type 0
+OneCuts =
+    (on : Bool) (us vs : List Call) → Makes (owed us) vs → Accepted (fresh on) us → Accepted (fresh on) vs → Demand3 on us vs

@@ -1,0 +1,4 @@
+pub mod Only
+pub mod Parts
+pub mod Panel
+pub mod Texts

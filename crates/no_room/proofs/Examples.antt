@@ -1,20 +1,13 @@
--- Every worked example passes, by computing it.
-use mathlib.Core.Path.{_≡_, refl}
+-- Every worked example passes, by computing it; and so for whatever keeps the promise of a transfer.
+use mathlib.Core.Path.{_≡_, refl, ap, _∙_}
 use mathlib.Core.Bool.{true}
-use Rattle.geometry.specs.Place.{mapOf, outcome, next}
-use Rattle.pixels.specs.Run.{stores, walkAfter, pixelsCounted}
-use Rattle.lists.specs.Params.{filled, differ}
-use Rattle.boot.specs.Boot.{fits, comparedFrom}
-use Rattle.timing.specs.Lint.{brokenBy, timesAfter}
-use Rattle.chip.specs.Begin.{freshChip, chipBegun, chipReleased}
-use Rattle.chip.specs.Apply.{appliedIfDue, chipTaken}
-use Rattle.st7789.specs.Command.{begun, released}
-use Rattle.st7789.specs.Data.{ran, taken}
-use Rattle.st7789.specs.Refusals.{badState, countHigh, transferRefusal}
-use Rattle.st7789.specs.Entries.{freshController, moved, transferred, transferMemory}
-use Rattle.views.specs.Light.{dimmed}
-use Rattle.no_room.specs.Examples.{rows, allPass}
+use Rattle.no_room.specs.Examples.{after, rows, allPass}
+use Rattle.no_room.proofs.Model.{model}
+use Rattle.no_room.proofs.Kept.{Transfer, KeepsTransfer, leftBy, as-promised}
 
-pub all-pass : allPass rows ≡ true
-unfolding rows fits comparedFrom mapOf outcome next stores walkAfter pixelsCounted filled differ brokenBy timesAfter freshChip chipBegun chipReleased appliedIfDue chipTaken begun released ran taken badState countHigh transferRefusal freshController moved transferred transferMemory dimmed
+pub all-pass : allPass after rows ≡ true
+unfolding rows model
 all-pass = refl
+
+pub all-passed-by : (f : Transfer) → KeepsTransfer f → allPass (leftBy f) rows ≡ true
+all-passed-by f keeps = ap (λ make. allPass make rows) (as-promised f keeps) ∙ all-pass

@@ -30,7 +30,7 @@ pub same : {A : Type 0} {x y v : A} → x ≡ v → y ≡ v → x ≡ y
 same p q = p ∙ sym q
 
 -- "No. | Name", read the other way.
-abbrev statusOf : ℕ → Status
+abbrev pub statusOf : ℕ → Status
 statusOf n = getD (Ok ∷ BadState ∷ BadMemory ∷ BadFrame ∷ TooLong ∷ CountHigh ∷ LogLong ∷ BadLog ∷ []) n Ok
 
 read-back : (s : Status) → statusOf (number s) ≡ s

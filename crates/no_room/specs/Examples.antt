@@ -38,6 +38,7 @@ pub record Row : Type 0 where
 abbrev pub fresh : Panel
 fresh = record { controller = freshController true; memory = replicate 76800 0 }
 
+-- The panel after a call, as `transfer` promises it.
 abbrev pub after : Panel → Call → Panel
 after p c =
     record {
@@ -45,12 +46,10 @@ after p c =
       memory = transferMemory (c .dc) (c .bytes) (p .memory) (p .controller);
     }
 
-abbrev pub left : Row → Panel
-left row = foldl after fresh (row .calls)
-
-abbrev pub allPass : List Row → Bool
-allPass [] = true
-allPass (row ∷ rest) = row .passes (left row) && allPass rest
+-- The rows all pass, for a way to make a call.
+abbrev pub allPass : (Panel → Call → Panel) → List Row → Bool
+allPass make [] = true
+allPass make (row ∷ rest) = row .passes (foldl make fresh (row .calls)) && allPass make rest
 
 -- What the calls are made of: a time in nanoseconds and a segment of commands, one command at time 0, data, and data with CS released after it.
 abbrev pub commandsAt : ℕ → List ℕ → Call

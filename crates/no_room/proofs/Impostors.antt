@@ -85,7 +85,7 @@ module _ (f : Transfer) (keeps : KeepsTransfer f) where
       apart (λ p. cell 0 (p .memory)) 0xF800 0 (ap (λ p. cell 0 (p .memory)) both-left ∙ second-stores)
       (ap (cell 0) (keeps fresh first .1 .1) ∙ first-stores-nothing) refl (idles first second)
 
-  -- "Invented counts": after P1 the counts are these, and no others.
+  -- "Invented counts": after P1 the counts are these and no others. `commands-counted` has the commands of every accepted call.
   pub not-invented :
       leftBy f (leftBy f fresh first) second .controller .counts ≡
       record { commands = 1; «ramwr_count» = 1; «pixels_written» = 2; «dropped_params» = 0 }

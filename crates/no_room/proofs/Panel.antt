@@ -1,8 +1,11 @@
 -- Every public operation of st7789, views and publishing: its promise, which is its contract, leaves no room.
 use Prim.Native.Nat.{ℕ}
-use mathlib.Core.Path.{refl}
+use mathlib.Core.Path.{_≡_, refl}
 use mathlib.Core.List.{List}
 use denote.Ref.{now}
+use Rattle.status.specs.Numbers.{number}
+use Rattle.st7789.specs.declared.Answer.{Answer}
+use Rattle.st7789.specs.declared.Controller.{Controller}
 use Rattle.st7789.proofs.Controller.fresh as fresh
 use Rattle.st7789.proofs.Controller.set_powered as set-powered
 use Rattle.st7789.proofs.Controller.set_invon_shows_ram as set-invon-shows-ram
@@ -20,6 +23,11 @@ use Rattle.views.proofs.frame as frame
 use Rattle.views.proofs.row as row
 use Rattle.publishing.proofs.publish as publish
 use Rattle.no_room.proofs.Only.{Only, OnlyAs, same, told}
+
+-- An answer is a controller and a status.
+answered :
+    (x y : Answer) {n : ℕ} {s : Controller} → number (x .status) ≡ n → number (y .status) ≡ n → x .controller ≡ s → y .controller ≡ s → x ≡ y
+answered x y p q e f i = record { controller = same e f i; status = told (x .status) (y .status) p q i }
 
 pub fresh-one : Only fresh.ended fresh.Reads.Learnt
 fresh-one κs args x y u v p q = (same p q, refl)
@@ -41,22 +49,22 @@ take-warnings-one κs args x y u v p q = (same p q, refl)
 
 pub transfer-one : Only transfer.ended transfer.Reads.Learnt
 transfer-one κs args x y u v p q = (
-  λ i. record { controller = same (p .1 .0) (q .1 .0) i; status = told (x .status) (y .status) (p .0) (q .0) i },
+  answered x y (p .0) (q .0) (p .1 .0) (q .1 .0),
   λ i. (tt, (tt, (tt, (tt, (tt, (same (p .1 .1) (q .1 .1) i, tt)))))),
 )
 
 pub transfer-without-memory-one : Only transfer-without-memory.ended transfer-without-memory.Reads.Learnt
-transfer-without-memory-one κs args x y u v p q = (λ i. record { controller = same (p .1) (q .1) i; status = told (x .status) (y .status) (p .0) (q .0) i }, refl)
+transfer-without-memory-one κs args x y u v p q = (answered x y (p .0) (q .0) (p .1) (q .1), refl)
 
 pub reset-one : Only reset.ended reset.Reads.Learnt
 reset-one κs args x y u v p q = (
-  λ i. record { controller = same (p .1 .0) (q .1 .0) i; status = told (x .status) (y .status) (p .0) (q .0) i },
+  answered x y (p .0) (q .0) (p .1 .0) (q .1 .0),
   λ i. (tt, (tt, (same (p .1 .1) (q .1 .1) i, tt))),
 )
 
 pub new-one : Only new.ended new.Reads.Learnt
 new-one κs args x y u v p q = (
-  λ i. record { controller = same (p .1 .0) (q .1 .0) i; status = told (x .status) (y .status) (p .0) (q .0) i },
+  answered x y (p .0) (q .0) (p .1 .0) (q .1 .0),
   λ i. (tt, (same (p .1 .1) (q .1 .1) i, tt)),
 )
 

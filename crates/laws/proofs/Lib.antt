@@ -5,4 +5,4 @@ pub mod Reach
 pub mod Bare
 pub mod Counts
 pub mod Meaning
-pub mod Examples
+pub mod Cases

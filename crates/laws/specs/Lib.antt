@@ -1,4 +1,3 @@
 pub mod Valid
 pub mod Same
-pub mod Examples
 pub mod Cases

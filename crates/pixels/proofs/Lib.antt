@@ -3,5 +3,4 @@ pub mod Stores
 pub mod Bounds
 pub mod Steps
 pub mod Turns
-pub mod Examples
 pub mod Clearing

@@ -1,4 +1,4 @@
--- Document 01's P11 and its edges, as rows of one table: a pixel, a brightness pair, and the pixel dimmed.
+-- Edges of dimming, as rows of one table: a pixel, a brightness pair, and the pixel dimmed. P11 itself is a row of no_room's table.
 use Prim.Native.Nat.{ℕ, _-_, _^_}
 use mathlib.Core.Bool.{Bool, true, _&&_}
 use mathlib.Core.List.{List, [], _∷_}
@@ -17,11 +17,8 @@ allSeen (r ∷ rs) = eqb (dimmed (r .pixel) (r .level) (r .scale)) (r .seen) && 
 
 unfoldable pub rows : List Row
 rows =
-    -- P11: FFFF dimmed 1/2: 7BEF; 2/1: FFFE
-    record { pixel = 0xFFFF; level = 1; scale = 2; seen = 0x7BEF }
-    ∷ record { pixel = 0xFFFF; level = 2; scale = 1; seen = 0xFFFE }
     -- level 0, scale 0, full brightness, the largest pair
-    ∷ record { pixel = 0xFFFF; level = 0; scale = 1; seen = 0 }
+    record { pixel = 0xFFFF; level = 0; scale = 1; seen = 0 }
     ∷ record { pixel = 0xFFFF; level = 1; scale = 0; seen = 0 }
     ∷ record { pixel = 0xA5C3; level = 1024; scale = 1024; seen = 0xA5C3 }
     ∷ record { pixel = 0xFFFF; level = 2 ^ 32 - 1; scale = 1; seen = 0xFFFF }

@@ -1,0 +1,12 @@
+-- Every case of the table of refusals is given its number, by computing them.
+use mathlib.Core.Path.{_≡_, refl}
+use mathlib.Core.Bool.{true}
+use Rattle.lists.specs.Params.{differ}
+use Rattle.chip.specs.Begin.{freshChip}
+use Rattle.st7789.specs.Refusals.{badState, countHigh, transferRefusal}
+use Rattle.st7789.specs.Entries.{freshController}
+use Rattle.laws.specs.Cases.{cases, allGiven}
+
+pub all-given : allGiven cases ≡ true
+unfolding cases differ freshChip badState countHigh transferRefusal freshController
+all-given = refl

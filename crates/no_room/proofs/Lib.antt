@@ -1,0 +1,9 @@
+pub mod Only
+pub mod Parts
+pub mod Panel
+pub mod Texts
+pub mod Kept
+pub mod Counted
+pub mod Model
+pub mod Examples
+pub mod Impostors

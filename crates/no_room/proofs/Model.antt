@@ -1,0 +1,18 @@
+-- One name that opens every definition with which the examples compute.
+use Rattle.geometry.specs.Place.{mapOf, outcome, next}
+use Rattle.pixels.specs.Run.{stores, walkAfter, pixelsCounted}
+use Rattle.lists.specs.Params.{filled, differ}
+use Rattle.boot.specs.Boot.{fits, comparedFrom}
+use Rattle.timing.specs.Lint.{brokenBy, timesAfter}
+use Rattle.chip.specs.Begin.{freshChip, chipBegun, chipReleased}
+use Rattle.chip.specs.Apply.{appliedIfDue, chipTaken}
+use Rattle.st7789.specs.Command.{begun, released}
+use Rattle.st7789.specs.Data.{ran, taken}
+use Rattle.st7789.specs.Refusals.{badState, countHigh, transferRefusal}
+use Rattle.st7789.specs.Entries.{freshController, moved, transferred, transferMemory}
+use Rattle.views.specs.Light.{dimmed}
+use Rattle.publishing.specs.Publish.{publishRefusal, published, publishedFrame}
+
+unfoldable pub model : Unit {0}
+unfolding mapOf outcome next stores walkAfter pixelsCounted filled differ fits comparedFrom brokenBy timesAfter freshChip chipBegun chipReleased appliedIfDue chipTaken begun released ran taken badState countHigh transferRefusal freshController moved transferred transferMemory dimmed publishRefusal published publishedFrame
+model = tt

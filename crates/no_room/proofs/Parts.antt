@@ -1,0 +1,143 @@
+-- Every public operation of status, geometry, pixels, lists, timing, board and chip: its promise, which is its contract, leaves no room.
+use mathlib.Core.Path.{refl}
+use Rattle.status.proofs.number as number
+use Rattle.status.proofs.accepted as accepted
+use Rattle.status.proofs.counts_high as counts-high
+use Rattle.status.proofs.memory_status as memory-status
+use Rattle.status.proofs.transfer_status as transfer-status
+use Rattle.geometry.proofs.col_max as col-max
+use Rattle.geometry.proofs.row_max as row-max
+use Rattle.geometry.proofs.map as map
+use Rattle.geometry.proofs.place as place
+use Rattle.geometry.proofs.advance as advance
+use Rattle.geometry.proofs.window_bad as window-bad
+use Rattle.geometry.proofs.pointer_bad as pointer-bad
+use Rattle.pixels.proofs.write_pixels as write-pixels
+use Rattle.pixels.proofs.walk_pixels as walk-pixels
+use Rattle.pixels.proofs.all_rows as all-rows
+use Rattle.pixels.proofs.span_bad as span-bad
+use Rattle.pixels.proofs.clear as clear
+use Rattle.lists.proofs.Params.empty as empty
+use Rattle.lists.proofs.Params.append as append
+use Rattle.lists.proofs.Params.differs as differs
+use Rattle.lists.proofs.Params.excess as excess
+use Rattle.lists.proofs.stored_long as stored-long
+use Rattle.lists.proofs.stored_place as stored-place
+use Rattle.timing.proofs.lint as lint
+use Rattle.timing.proofs.Times.fresh as times-fresh
+use Rattle.timing.proofs.Times.after as after
+use Rattle.board.proofs.PanelConfig.new as config-new
+use Rattle.board.proofs.Power.fresh as power-fresh
+use Rattle.board.proofs.Power.set_powered as power-set-powered
+use Rattle.board.proofs.Power.set_brightness as power-set-brightness
+use Rattle.board.proofs.is_board_rail as is-board-rail
+use Rattle.chip.proofs.Chip.fresh as chip-fresh
+use Rattle.chip.proofs.Chip.begin as begin
+use Rattle.chip.proofs.Chip.take as take
+use Rattle.chip.proofs.Chip.release as release
+use Rattle.no_room.proofs.Only.{Only, same, told}
+
+pub number-one : Only number.ended number.Reads.Learnt
+number-one κs args x y u v p q = (same p q, refl)
+
+pub accepted-one : Only accepted.ended accepted.Reads.Learnt
+accepted-one κs args x y u v p q = (same p q, refl)
+
+pub counts-high-one : Only counts-high.ended counts-high.Reads.Learnt
+counts-high-one κs args x y u v p q = (same p q, refl)
+
+pub memory-status-one : Only memory-status.ended memory-status.Reads.Learnt
+memory-status-one κs args x y u v p q = (told x y p q, refl)
+
+pub transfer-status-one : Only transfer-status.ended transfer-status.Reads.Learnt
+transfer-status-one κs args x y u v p q = (told x y p q, refl)
+
+pub col-max-one : Only col-max.ended col-max.Reads.Learnt
+col-max-one κs args x y u v p q = (same p q, refl)
+
+pub row-max-one : Only row-max.ended row-max.Reads.Learnt
+row-max-one κs args x y u v p q = (same p q, refl)
+
+pub map-one : Only map.ended map.Reads.Learnt
+map-one κs args x y u v p q = (same p q, refl)
+
+pub place-one : Only place.ended place.Reads.Learnt
+place-one κs args x y u v p q = (same p q, refl)
+
+pub advance-one : Only advance.ended advance.Reads.Learnt
+advance-one κs args x y u v p q = (same p q, refl)
+
+pub window-bad-one : Only window-bad.ended window-bad.Reads.Learnt
+window-bad-one κs args x y u v p q = (same p q, refl)
+
+pub pointer-bad-one : Only pointer-bad.ended pointer-bad.Reads.Learnt
+pointer-bad-one κs args x y u v p q = (same p q, refl)
+
+pub write-pixels-one : Only write-pixels.ended write-pixels.Reads.Learnt
+write-pixels-one κs args x y u v p q = (same (p .0) (q .0), λ i. (tt, (tt, (tt, (tt, (tt, (same (p .1) (q .1) i, tt)))))))
+
+pub walk-pixels-one : Only walk-pixels.ended walk-pixels.Reads.Learnt
+walk-pixels-one κs args x y u v p q = (same p q, refl)
+
+pub all-rows-one : Only all-rows.ended all-rows.Reads.Learnt
+all-rows-one κs args x y u v p q = (same p q, refl)
+
+pub span-bad-one : Only span-bad.ended span-bad.Reads.Learnt
+span-bad-one κs args x y u v p q = (same p q, refl)
+
+pub clear-one : Only clear.ended clear.Reads.Learnt
+clear-one κs args x y u v p q = (refl, λ i. (same p q i, tt))
+
+pub empty-one : Only empty.ended empty.Reads.Learnt
+empty-one κs args x y u v p q = (same p q, refl)
+
+pub append-one : Only append.ended append.Reads.Learnt
+append-one κs args x y u v p q = (same p q, refl)
+
+pub differs-one : Only differs.ended differs.Reads.Learnt
+differs-one κs args x y u v p q = (same p q, refl)
+
+pub excess-one : Only excess.ended excess.Reads.Learnt
+excess-one κs args x y u v p q = (same p q, refl)
+
+pub stored-long-one : Only stored-long.ended stored-long.Reads.Learnt
+stored-long-one κs args x y u v p q = (same p q, refl)
+
+pub stored-place-one : Only stored-place.ended stored-place.Reads.Learnt
+stored-place-one κs args x y u v p q = (same p q, refl)
+
+pub lint-one : Only lint.ended lint.Reads.Learnt
+lint-one κs args x y u v p q = (same p q, refl)
+
+pub times-fresh-one : Only times-fresh.ended times-fresh.Reads.Learnt
+times-fresh-one κs args x y u v p q = (same p q, refl)
+
+pub after-one : Only after.ended after.Reads.Learnt
+after-one κs args x y u v p q = (same p q, refl)
+
+pub config-new-one : Only config-new.ended config-new.Reads.Learnt
+config-new-one κs args x y u v p q = (same p q, refl)
+
+pub power-fresh-one : Only power-fresh.ended power-fresh.Reads.Learnt
+power-fresh-one κs args x y u v p q = (same p q, refl)
+
+pub power-set-powered-one : Only power-set-powered.ended power-set-powered.Reads.Learnt
+power-set-powered-one κs args x y u v p q = (same p q, refl)
+
+pub power-set-brightness-one : Only power-set-brightness.ended power-set-brightness.Reads.Learnt
+power-set-brightness-one κs args x y u v p q = (same p q, refl)
+
+pub is-board-rail-one : Only is-board-rail.ended is-board-rail.Reads.Learnt
+is-board-rail-one κs args x y u v p q = (same p q, refl)
+
+pub chip-fresh-one : Only chip-fresh.ended chip-fresh.Reads.Learnt
+chip-fresh-one κs args x y u v p q = (same p q, refl)
+
+pub begin-one : Only begin.ended begin.Reads.Learnt
+begin-one κs args x y u v p q = (same p q, refl)
+
+pub take-one : Only take.ended take.Reads.Learnt
+take-one κs args x y u v p q = (same p q, refl)
+
+pub release-one : Only release.ended release.Reads.Learnt
+release-one κs args x y u v p q = (same p q, refl)

@@ -1,0 +1,214 @@
+-- Document 01's worked examples as rows of one table: the transfers made on a fresh panel, and a test of what they leave.
+use Prim.Native.Nat.{ℕ, _+_, _*_}
+use mathlib.Core.Bool.{Bool, true, false, not, _&&_}
+use mathlib.Core.List.{List, [], _∷_, _++_, foldl, map}
+use lib.ListN.{length, getD, take, replicate}
+use lib.Dec.{eqb}
+use Rattle.pixels.specs.declared.Carry.{Carry}
+use Rattle.pixels.specs.declared.Carry.the-variants.{Empty, High}
+use Rattle.pixels.specs.declared.Span.{Span}
+use Rattle.pixels.specs.declared.Span.the-variants.{Rows}
+use Rattle.lists.specs.Fixed.{used}
+use Rattle.lists.specs.Params.{listed, sameNumbers}
+use Rattle.lists.specs.declared.Stored.{Stored}
+use Rattle.lists.specs.declared.Current.{Current}
+use Rattle.lists.specs.declared.Current.the-variants.{At}
+use Rattle.boot.specs.Boot.{bootSequence, compared, stepOf}
+use Rattle.boot.specs.declared.BootStep.{BootStep}
+use Rattle.st7789.specs.Parts.{traceOf}
+use Rattle.st7789.specs.Entries.{freshController, transferred, transferMemory}
+use Rattle.st7789.specs.declared.Controller.{Controller}
+use Rattle.views.specs.Light.{dimmed}
+
+pub record Call : Type 0 where
+  pub time : ℕ
+  pub dc : Bool
+  pub bytes : List ℕ
+  pub release : Bool
+
+pub record Panel : Type 0 where
+  pub controller : Controller
+  pub memory : List ℕ
+
+pub record Row : Type 0 where
+  pub calls : List Call
+  pub passes : Panel → Bool
+
+-- "fresh panel unless said"
+abbrev pub fresh : Panel
+fresh = record { controller = freshController true; memory = replicate 76800 0 }
+
+-- The panel after a call, as `transfer` promises it.
+abbrev pub after : Panel → Call → Panel
+after p c =
+    record {
+      controller = transferred (c .time) (c .dc) (c .bytes) (c .release) (length (p .memory)) (p .controller);
+      memory = transferMemory (c .dc) (c .bytes) (p .memory) (p .controller);
+    }
+
+-- The rows all pass, for a way to make a call.
+abbrev pub allPass : (Panel → Call → Panel) → List Row → Bool
+allPass make [] = true
+allPass make (row ∷ rest) = row .passes (foldl make fresh (row .calls)) && allPass make rest
+
+-- What the calls are made of: a time in nanoseconds and a segment of commands, one command at time 0, data, and data with CS released after it.
+abbrev pub commandsAt : ℕ → List ℕ → Call
+commandsAt t bytes = record { time = t; dc = false; bytes = bytes; release = false }
+
+abbrev pub command : ℕ → Call
+command c = commandsAt 0 (c ∷ [])
+
+abbrev pub segment : List ℕ → Call
+segment bytes = record { time = 0; dc = true; bytes = bytes; release = false }
+
+abbrev pub lastSegment : List ℕ → Call
+lastSegment bytes = record { time = 0; dc = true; bytes = bytes; release = true }
+
+abbrev pub ms : ℕ → ℕ
+ms n = n * 1000000
+
+-- What the tests are made of.
+abbrev pub holds : ℕ → ℕ → Panel → Bool
+holds index value p = eqb (getD (p .memory) index 0) value
+
+abbrev pub nothingStored : Panel → Bool
+nothingStored p = sameNumbers (p .memory) (fresh .memory)
+
+abbrev pub pointer : ℕ → ℕ → Panel → Bool
+pointer x y p = eqb (p .controller .chip .walk .pointer .x) x && eqb (p .controller .chip .walk .pointer .y) y
+
+abbrev pub pixels : ℕ → Panel → Bool
+pixels n p = eqb (p .controller .counts .«pixels_written») n
+
+abbrev pub isRows : ℕ → ℕ → Span → Bool
+isRows first last Span.Nothing = false
+isRows first last (Rows a b) = eqb a first && eqb b last
+
+abbrev pub span : ℕ → ℕ → Panel → Bool
+span first last p = isRows first last (p .controller .marks .dirty)
+
+abbrev pub isHigh : ℕ → Carry → Bool
+isHigh b Empty = false
+isHigh b (High a) = eqb a b
+
+abbrev pub carry : ℕ → Panel → Bool
+carry b p = isHigh b (p .controller .chip .walk .carry)
+
+abbrev pub columns : ℕ → ℕ → Panel → Bool
+columns xs xe p = eqb (p .controller .chip .window .xs) xs && eqb (p .controller .chip .window .xe) xe
+
+-- a stored command's place among the twelve
+abbrev pub place : ℕ → Panel → Stored
+place i p = getD (p .controller .stored) i (record { present = false; params = record { bytes = []; count = 0 } })
+
+abbrev pub stored : ℕ → List ℕ → Panel → Bool
+stored i bytes p = place i p .present && sameNumbers (listed (place i p .params)) bytes
+
+abbrev pub dropped : ℕ → Panel → Bool
+dropped n p = eqb (p .controller .counts .«dropped_params») n
+
+-- the rules and the times of the warnings kept, in order
+abbrev pub warns : List ℕ → Panel → Bool
+warns rules p = sameNumbers (map (λ w. w .rule) (take (p .controller .logs .warned) (p .controller .warnings))) rules
+
+abbrev pub warnsAt : List ℕ → Panel → Bool
+warnsAt times p = sameNumbers (map (λ w. w .at) (take (p .controller .logs .warned) (p .controller .warnings))) times
+
+abbrev pub isNone : Current → Bool
+isNone Current.Nothing = true
+isNone (At i) = false
+
+-- The boot rows as calls, each row at the delays of those before it, in milliseconds.
+abbrev pub dataOf : List ℕ → List Call
+dataOf [] = []
+dataOf (b ∷ bs) = segment (b ∷ bs) ∷ []
+
+abbrev pub sentFrom : ℕ → List BootStep → List Call
+sentFrom at [] = []
+sentFrom at (s ∷ steps) = commandsAt (ms at) (s .cmd ∷ []) ∷ (dataOf (listed (s .params)) ++ sentFrom (at + s .«delay_ms_after») steps)
+
+unfoldable pub rows : List Row
+rows =
+    -- P1: 2C, data F8 00 07 E0: indexes 0 and 1 hold F800, 07E0; pointer (2,0)
+    record {
+      calls = command 0x2C ∷ segment (0xF8 ∷ 0x00 ∷ 0x07 ∷ 0xE0 ∷ []) ∷ [];
+      passes = λ p. holds 0 0xF800 p && holds 1 0x07E0 p && pointer 2 0 p;
+    }
+    -- P2: cut as F8, 00 07, E0: same
+    ∷ record {
+      calls = command 0x2C ∷ segment (0xF8 ∷ []) ∷ segment (0x00 ∷ 0x07 ∷ []) ∷ segment (0xE0 ∷ []) ∷ [];
+      passes = λ p. holds 0 0xF800 p && holds 1 0x07E0 p && pointer 2 0 p;
+    }
+    -- P3: 2A 00 05 00 04, 2C, one pixel: none counted, pointer (5,0)
+    ∷ record {
+      calls = command 0x2A ∷ segment (0x00 ∷ 0x05 ∷ 0x00 ∷ 0x04 ∷ []) ∷ command 0x2C ∷ segment (0xF8 ∷ 0x00 ∷ []) ∷ [];
+      passes = λ p. nothingStored p && pixels 0 p && pointer 5 0 p;
+    }
+    -- P4: 2A 01 00 FF FF: 239, 239; sent with 36 20 before it: 256, 319
+    ∷ record {
+      calls = command 0x2A ∷ segment (0x01 ∷ 0x00 ∷ 0xFF ∷ 0xFF ∷ []) ∷ [];
+      passes = columns 239 239;
+    }
+    ∷ record {
+      calls = command 0x36 ∷ segment (0x20 ∷ []) ∷ command 0x2A ∷ segment (0x01 ∷ 0x00 ∷ 0xFF ∷ 0xFF ∷ []) ∷ [];
+      passes = columns 256 319;
+    }
+    -- P5: E0 with 15 bytes: 14 stored, 1 dropped
+    ∷ record {
+      calls = command 0xE0 ∷ segment (replicate 15 0x07) ∷ [];
+      passes = λ p. stored 10 (replicate 14 0x07) p && dropped 1 p;
+    }
+    -- P6: B2 with an empty segment: an empty list is stored; with no segment, none
+    ∷ record { calls = command 0xB2 ∷ segment [] ∷ []; passes = stored 0 [] }
+    ∷ record { calls = command 0xB2 ∷ []; passes = λ p. not (place 0 p .present) }
+    -- P7: 2B 00 F0 01 3F, 36 20, 2C, one pixel: nothing stored, 1 counted, pointer (1,240)
+    ∷ record {
+      calls =
+          command 0x2B
+          ∷ segment (0x00 ∷ 0xF0 ∷ 0x01 ∷ 0x3F ∷ [])
+          ∷ command 0x36
+          ∷ segment (0x20 ∷ [])
+          ∷ command 0x2C
+          ∷ segment (0xF8 ∷ 0x00 ∷ [])
+          ∷ [];
+      passes = λ p. nothingStored p && pixels 1 p && pointer 1 240 p;
+    }
+    -- P8: 36 C0, 2C, F8 00: index 76,799, span 319 to 319
+    ∷ record {
+      calls = command 0x36 ∷ segment (0xC0 ∷ []) ∷ command 0x2C ∷ segment (0xF8 ∷ 0x00 ∷ []) ∷ [];
+      passes = λ p. holds 76799 0xF800 p && span 319 319 p;
+    }
+    -- P9: 11 at 200 ms: 00 at 205 ms no warning, one nanosecond earlier rule 1, at 199 ms rule 1; 10 at 320 ms none
+    ∷ record { calls = commandsAt (ms 200) (0x11 ∷ []) ∷ commandsAt (ms 205) (0x00 ∷ []) ∷ []; passes = warns [] }
+    ∷ record { calls = commandsAt (ms 200) (0x11 ∷ []) ∷ commandsAt (ms 204 + 999999) (0x00 ∷ []) ∷ []; passes = warns (1 ∷ []) }
+    ∷ record { calls = commandsAt (ms 200) (0x11 ∷ []) ∷ commandsAt (ms 199) (0x00 ∷ []) ∷ []; passes = warns (1 ∷ []) }
+    ∷ record { calls = commandsAt (ms 200) (0x11 ∷ []) ∷ commandsAt (ms 320) (0x10 ∷ []) ∷ []; passes = warns [] }
+    -- P10: after that 11, 10 at 203 ms: rules 1 and 2
+    ∷ record { calls = commandsAt (ms 200) (0x11 ∷ []) ∷ commandsAt (ms 203) (0x10 ∷ []) ∷ []; passes = warns (1 ∷ 2 ∷ []) }
+    -- P11: FFFF dimmed 1/2: 7BEF; 2/1: FFFE
+    ∷ record { calls = []; passes = λ p. eqb (dimmed 0xFFFF 1 2) 0x7BEF }
+    ∷ record { calls = []; passes = λ p. eqb (dimmed 0xFFFF 2 1) 0xFFFE }
+    -- P12: 2C, F8, 3C, 00: F800 stored; with CS released before 3C: nothing, carry 00
+    ∷ record {
+      calls = command 0x2C ∷ segment (0xF8 ∷ []) ∷ command 0x3C ∷ segment (0x00 ∷ []) ∷ [];
+      passes = holds 0 0xF800;
+    }
+    ∷ record {
+      calls = command 0x2C ∷ lastSegment (0xF8 ∷ []) ∷ command 0x3C ∷ segment (0x00 ∷ []) ∷ [];
+      passes = λ p. nothingStored p && carry 0x00 p;
+    }
+    -- The boot rows at their delays from 0: one warning, rule 2 at 20 ms; comparison matches; D0 holds A4 A1
+    ∷ record {
+      calls = sentFrom 0 bootSequence;
+      passes = λ p.
+          warns (2 ∷ []) p && warnsAt (ms 20 ∷ []) p && eqb (stepOf (compared (used (traceOf (p .controller))) .check)) 0
+          && stored 8 (0xA4 ∷ 0xA1 ∷ []) p;
+    }
+    -- The 129th command works and isn't traced
+    ∷ record {
+      calls = commandsAt 0 (replicate 128 0x00) ∷ command 0x21 ∷ [];
+      passes = λ p.
+          p .controller .chip .registers .inverted && eqb (p .controller .counts .commands) 129 && eqb (p .controller .logs .traced) 128
+          && isNone (p .controller .logs .current);
+    }
+    ∷ []

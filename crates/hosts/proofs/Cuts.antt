@@ -34,8 +34,7 @@ use Rattle.st7789.specs.Parts.{whole}
 use Rattle.st7789.specs.Data.{noRecord, onCurrent, morePixels, moreParams, walkedChip, ran, taken, dataFor, dataIn, storesIn}
 use Rattle.st7789.specs.declared.Controller.{Controller}
 
--- PARAMETERS
-
+-- Parameters: filling them in two parts, and counting what is dropped.
 pub filled-cut : (p : Params) (a b : List ℕ) → filled p (a ++ b) ≡ filled (filled p a) b
 unfolding filled
 filled-cut p a b = ap unfixed (foldl-append (push 14) (fixed p) a b)
@@ -65,7 +64,7 @@ filled-keeps : (p : Params) (bytes : List ℕ) (i : ℕ) → i < p .count → by
 unfolding filled
 filled-keeps p bytes i h = all-keep (fixed p) bytes i h
 
--- APPLYING: a command that is due applies the same when more bytes have come.
+-- A command that is due applies the same when more bytes have come.
 
 abbrev windowBy : Bool → Bool → ℕ → ℕ → ℕ → Window → Window
 windowBy q r first second madctl w =
@@ -184,8 +183,7 @@ taken-decoder c bytes s = go (due c (chipFilled bytes s .decoder))
     go true = (refl, refl, refl)
     go false = (refl, refl, refl)
 
--- TRACE
-
+-- The current record changed twice.
 onCurrent-twice :
     (f g h : TraceRecord → TraceRecord) → ((r : TraceRecord) → g (f r) ≡ h r) → (k : Current) (l : List TraceRecord) →
     onCurrent g k (onCurrent f k l) ≡ onCurrent h k l
@@ -207,8 +205,7 @@ more-pixels a b r = ap (λ n. record { at = r .at; «pixel_bytes» = n; params =
 more-params : (a b : List ℕ) (r : TraceRecord) → moreParams b (moreParams a r) ≡ moreParams (a ++ b) r
 more-params a b r = ap (λ p. record { at = r .at; «pixel_bytes» = r .«pixel_bytes»; params = p; cmd = r .cmd }) (sym (filled-cut (r .params) a b))
 
--- THE CONTROLLER
-
+-- The controller, by whether it is in a run and by the command in force.
 data-by :
     (bytes : List ℕ) (s : Controller) (r : Bool) (k : InForce) → s .chip .decoder .«in_pixels» ≡ r → s .chip .decoder .cmd ≡ k →
     dataIn bytes s ≡ cond r (ran bytes s) (dataFor k bytes s)
@@ -279,7 +276,7 @@ module _ (a b : List ℕ) (s : Controller) where
           {k k′ : Chip} {n n′ : ℕ} {e e′ : List Stored} {l l′ : List TraceRecord} → k ≡ k′ → n ≡ n′ → e ≡ e′ → l ≡ l′ → by k n e l ≡ by k′ n′ e′ l′
       made {k} {k′} {n} {n′} {e = u} {l} e f g h = ap₂ (λ x y. by x y u l) e f ∙ ap₂ (λ x y. by k′ n′ x y) g h
 
-  -- Data in two parts.
+  -- The cut law: data in two parts leaves what the whole leaves.
   pub data-cut : dataIn (a ++ b) s ≡ dataIn b (dataIn a s)
   unfolding ran taken
   data-cut = go (s .chip .decoder .«in_pixels») (s .chip .decoder .cmd) refl refl
@@ -293,6 +290,7 @@ module _ (a b : List ℕ) (s : Controller) where
           let d = taken-decoder c a (s .chip) in
           taken-cut c ∙ sym (data-by b (taken c a s) false (Code c) (d .2 ∙ e) (d .1 ∙ f))
 
+  -- And its two parts store what the whole stores.
   pub stores-both : storesIn true (a ++ b) s ≡ storesIn true a s ++ storesIn true b (dataIn a s)
   unfolding ran taken
   stores-both = go (s .chip .decoder .«in_pixels») (s .chip .decoder .cmd) refl

@@ -16,8 +16,8 @@ use Rattle.st7789.specs.Data.{ran, taken}
 use Rattle.st7789.specs.Refusals.{badState, countHigh, transferRefusal}
 use Rattle.st7789.specs.Entries.{freshController, moved, transferred, transferMemory, resetState, resetMemory}
 use Rattle.publishing.specs.Publish.{publishRefusal, published, publishedFrame}
-use Rattle.hosts.specs.Calls.{Host, Call, Accepted, fresh, refusal, step}
-use Rattle.hosts.specs.Hosts.{rest, part, between, Makes, done, besides, same, sends, noted, Demand3}
+use Rattle.hosts.specs.Calls.{Host, Call, Accepted, fresh, refusal, step, run}
+use Rattle.hosts.specs.Hosts.{rest, part, between, Makes, done, besides, same, sends, Demand3}
 use Rattle.hosts.specs.Instance.{plan, first, second, leftOver}
 use Rattle.hosts.proofs.Hosts.{two-hosts}
 
@@ -47,7 +47,7 @@ passed h (c ∷ calls) e =
 
 -- One name that opens every definition, for what is computed.
 unfoldable opened : Bool
-unfolding mapOf outcome next stores walkAfter pixelsCounted filled differ brokenBy timesAfter freshChip chipBegun chipReleased appliedIfDue chipTaken begun released ran taken badState countHigh transferRefusal freshController moved transferred transferMemory resetState resetMemory publishRefusal published publishedFrame refusal step noted
+unfolding mapOf outcome next stores walkAfter pixelsCounted filled differ brokenBy timesAfter freshChip chipBegun chipReleased appliedIfDue chipTaken begun released ran taken badState countHigh transferRefusal freshController moved transferred transferMemory resetState resetMemory publishRefusal published publishedFrame refusal step
 opened = true
 
 first-passes : passes (fresh true) first ≡ true
@@ -62,6 +62,6 @@ pub first-and-second : Demand3 true first second
 first-and-second =
     two-hosts true plan first second first-makes second-makes (passed (fresh true) first first-passes) (passed (fresh true) second second-passes)
 
-second-left : leftOver second ≡ true
+second-left : leftOver (run (fresh true) second) ≡ true
 unfolding opened
 second-left = refl

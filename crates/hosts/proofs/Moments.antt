@@ -31,8 +31,7 @@ use Rattle.hosts.specs.Hosts.{Since, nothingSince, noted, sinceFrom, sin
 use Rattle.hosts.proofs.Twins.{taken-on}
 use Rattle.hosts.proofs.Spans.{Fits, stores-fit, all-fit}
 
--- THE SPAN AFTER A TRANSFER
-
+-- A transfer widens the span by the rows of what it stores.
 release-keeps : (cs : Bool) (s : Controller) → cond cs (released s) s .marks .dirty ≡ s .marks .dirty
 unfolding released
 release-keeps true s = refl
@@ -69,8 +68,7 @@ in-panel dc bytes s x = go (dc && s .chip .decoder .«in_pixels»)
     go true m = stores-below (s .chip .window) (s .chip .registers .madctl) (s .chip .walk) bytes x m
     go false m = elim (List·Memᴰ·not-nil m) [ ]
 
--- A STATE STAYS GOOD
-
+-- Every call keeps a state good.
 -- The span may be any that is not bad.
 span-good : (d : Span) (s : Controller) → spanBad d ≡ false → Good s → Good (withDirty d s)
 span-good d s e g =
@@ -117,8 +115,7 @@ pub run-good : (h : Host) (calls : List Call) → Good (h .controller) → Good 
 run-good h [] g = g
 run-good h (c ∷ calls) g = run-good (step h c) calls (step-good h c g)
 
--- FRAME, MEMORY AND SPAN FIT
-
+-- Every accepted call keeps frame, memory and span fitting.
 abbrev pub HostFits : Host → Since → Type 0
 HostFits h s = Fits (h .memory) (h .frame) (h .controller .marks .dirty) s
 
@@ -192,8 +189,7 @@ fresh-fits : (on : Bool) → HostFits (fresh on) nothingSince
 unfolding freshController
 fresh-fits on = record { memory-long = zeros-long; frame-long = zeros-long; alike = λ r column _ _. refl; marks = refl }
 
--- FROM A FRESH PANEL
-
+-- From a fresh panel.
 module _ (on : Bool) (calls : List Call) (a : Accepted (fresh on) calls) where
   pub end-good : Good (run (fresh on) calls .controller)
   end-good = run-good (fresh on) calls (fresh-good on)

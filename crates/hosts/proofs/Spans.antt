@@ -14,10 +14,15 @@ use Rattle.pixels.specs.Spans.{allRows}
 use Rattle.pixels.specs.declared.Span.{Span}
 use Rattle.pixels.specs.declared.Span.the-variants.{Nothing, Rows}
 use Rattle.publishing.specs.Publish.{inSpan}
-use Rattle.hosts.specs.Hosts.{Since, Hull, Marked}
+use Rattle.hosts.specs.Hosts.{Since, Smallest, Hull, Marked}
 
--- THE SMALLEST SPAN
+-- The smallest is no larger than any span that holds the rows.
+pub smallest-least :
+    (first last f l : ℕ) (rows : List ℕ) → Smallest first last rows → ((r : ℕ) → List·Memᴰ r rows → (f ≤ r) × (r ≤ l)) →
+    (f ≤ first) × (last ≤ l)
+smallest-least first last f l rows s h = (h first (s .first-among) .0, h last (s .last-among) .1)
 
+-- One row more in the smallest span.
 hull-mark : (r : ℕ) (d : Span) (rows : List ℕ) → Hull d rows → Hull (mark d r) (rows ++ (r ∷ []))
 hull-mark r Nothing rows h =
     rw h
@@ -52,8 +57,7 @@ marked-mark :
 marked-mark r d true rows b e = rw e (ap₂ Rows (omega arith) (omega arith))
 marked-mark r d false rows b h = hull-mark r d rows h
 
--- OUTSIDE THE SPAN
-
+-- Outside a span, as a test and as bounds.
 outside : (r f l : ℕ) → inSpan r (Rows f l) ≡ false → f ≤ r → r ≤ l → ⊥
 outside r f l e h k = go (leb f r) (leb r l) refl refl e
   where
@@ -77,8 +81,6 @@ out-mark r row (Rows f l) e = (
   is-outside r f l (λ h k. outside r (min f row) (max l row) e (omega arith) (omega arith)),
   λ i. outside r (min f row) (max l row) e (omega arith) (omega arith),
 )
-
--- FRAME AND MEMORY
 
 -- What holds at every moment of the two and the span, with what was noted since the last publish.
 pub record Fits (memory frame : List ℕ) (d : Span) (s : Since) : Type 0 where

@@ -1,17 +1,15 @@
 -- Two hosts for which demand 3 says something: what both have to do, and the calls of each.
 use Prim.Native.Nat.{ℕ}
-use mathlib.Core.Bool.{Bool, true, false, not, _&&_}
+use mathlib.Core.Bool.{Bool, true, false, _&&_}
 use mathlib.Core.List.{List, [], _∷_}
 use lib.ListN.{getD}
 use lib.Dec.{eqb}
 use Rattle.pixels.specs.declared.Span.{Span}
 use Rattle.pixels.specs.declared.Span.the-variants.{Nothing, Rows}
-use Rattle.lists.specs.Params.{sameNumbers}
 use Rattle.board.specs.declared.BoardDomain.the-variants.{BoardRail}
 use Rattle.views.specs.declared.FrameView.the-variants.{Glass}
 use Rattle.views.specs.declared.Memory.the-variants.{Panel}
-use Rattle.hosts.specs.Calls.{Host, Call, commands, segment, publish, reset, markAll, power, brightness, pixel, view, row, compare, fresh, run}
-use Rattle.hosts.specs.Hosts.{Since, since}
+use Rattle.hosts.specs.Calls.{Host, Call, commands, segment, publish, reset, markAll, power, brightness, pixel, view, row, compare}
 
 -- Two pixels and a CS release, a stored command, a pixel of another row.
 abbrev pub plan : List Call
@@ -76,14 +74,11 @@ second =
     ∷ view Glass 76800
     ∷ []
 
--- What the second leaves to its last publish: row 9, stored to since the publish before, and not yet in the frame.
+-- What a host leaves to its last publish: row 9, stored to since the publish before, and not yet in the frame.
 abbrev pub isRows : ℕ → ℕ → Span → Bool
 isRows f l Nothing = false
 isRows f l (Rows first last) = eqb first f && eqb last l
 
-abbrev pub leftOver : List Call → Bool
-leftOver calls =
-    let h : Host = run (fresh true) calls in
-    let s : Since = since true calls in
-    isRows 9 9 (h .controller .marks .dirty) && (not (s .all) && (sameNumbers (s .rows) (9 ∷ [])
-    && (eqb (getD (h .memory) 2160 0) 0x1234 && eqb (getD (h .frame) 2160 0) 0)))
+abbrev pub leftOver : Host → Bool
+leftOver h =
+    isRows 9 9 (h .controller .marks .dirty) && (eqb (getD (h .memory) 2160 0) 0x1234 && eqb (getD (h .frame) 2160 0) 0)

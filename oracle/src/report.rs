@@ -1,0 +1,172 @@
+//! What is printed of a panel: the lines of panel-replay, the rest of the dump, and digests.
+
+use std::fmt::Write;
+
+use crate::st7789::reach::hidden;
+use crate::st7789::{FrameView, MAX_PARAMS, St7789p3, TRACE_LIMIT};
+use crate::st7789::{TimingLint, TimingWarning, TraceEntry};
+
+pub const VIEWS: [(&str, FrameView); 3] = [
+    ("raw", FrameView::Raw),
+    ("glass", FrameView::Glass),
+    ("perceived", FrameView::Perceived),
+];
+
+/// The three rules of the lint by their numbers in document 01.
+pub const RULES: [TimingLint; 3] = [
+    TimingLint::CommandAfterSlpout,
+    TimingLint::SleepCycleTooFast,
+    TimingLint::RamwrWrongColmod,
+];
+
+/// The lines that panel-replay prints: regs, win, cnt, dirty, boot, w.., t..
+pub fn replay_lines(panel: &St7789p3, out: &mut String) {
+    let [r0, r1] = panel.ramctrl();
+    line(
+        out,
+        format_args!(
+            "regs {} {} {} {:02x} {:02x} {r0:02x} {r1:02x}",
+            bit(panel.sleeping()),
+            bit(panel.display_on()),
+            bit(panel.inverted()),
+            panel.madctl(),
+            panel.colmod(),
+        ),
+    );
+    let (xs, xe, ys, ye) = panel.window();
+    let (x, y) = panel.cursor();
+    line(out, format_args!("win {xs} {xe} {ys} {ye} {x} {y}"));
+    line(
+        out,
+        format_args!(
+            "cnt {} {} {} {} {}",
+            panel.commands(),
+            panel.ramwr_count(),
+            panel.pixels_written(),
+            panel.dropped_param_bytes(),
+            panel.warnings().len(),
+        ),
+    );
+    line(out, format_args!("dirty {}", span(panel.dirty_rows())));
+    match panel.boot_mismatch() {
+        None => line(out, format_args!("boot ok")),
+        Some(found) => line(out, format_args!("boot {}", found.step)),
+    }
+    warning_lines(panel.warnings(), out);
+    for record in panel.trace().iter().take(TRACE_LIMIT) {
+        line(out, format_args!("{}", record_text(record)));
+    }
+}
+
+/// The whole dump, with the digest of the frame's numbers.
+pub fn dump(panel: &St7789p3, frame: &[u16], out: &mut String) {
+    replay_lines(panel, out);
+    let inner = hidden(panel);
+    line(
+        out,
+        format_args!(
+            "ctl {} {} {} {}",
+            bit(panel.powered()),
+            bit(panel.config().invon_shows_ram),
+            panel.brightness().level(),
+            inner.frame_duty,
+        ),
+    );
+    line(
+        out,
+        format_args!(
+            "ctx {} {} {} {}{}",
+            hex_or_none(inner.cmd),
+            bit(inner.in_pixels),
+            bit(inner.applied),
+            hex_or_none(panel.carry()),
+            list(inner.params),
+        ),
+    );
+    line(
+        out,
+        format_args!(
+            "at {} {} {}",
+            number_or_none(inner.last_slpout),
+            number_or_none(inner.last_slpin),
+            number_or_none(inner.trace_cur.map(|at| at as u64)),
+        ),
+    );
+    for (c, bytes) in inner.stored {
+        line(out, format_args!("s {c:02x}{}", list(bytes)));
+    }
+    line(out, format_args!("digest memory {}", digest(panel.raw())));
+    line(out, format_args!("digest frame {}", digest(frame)));
+    for (name, view) in VIEWS {
+        line(
+            out,
+            format_args!("digest {name} {}", digest(&panel.frame(view))),
+        );
+    }
+}
+
+pub fn warning_lines(warnings: &[TimingWarning], out: &mut String) {
+    for warning in warnings.iter().take(TRACE_LIMIT) {
+        let rule = match warning.lint {
+            TimingLint::CommandAfterSlpout => 1,
+            TimingLint::SleepCycleTooFast => 2,
+            TimingLint::RamwrWrongColmod => 3,
+        };
+        line(
+            out,
+            format_args!("w {rule} {:02x} {}", warning.cmd, warning.at.0),
+        );
+    }
+}
+
+/// A trace record as its `t` line, without the newline.
+pub fn record_text(record: &TraceEntry) -> String {
+    format!(
+        "t {:02x} {} {}{}",
+        record.cmd,
+        record.at.0,
+        record.pixel_bytes,
+        list(&record.params)
+    )
+}
+
+/// A span as `FIRST LAST`, or `none`.
+pub fn span(span: Option<(u16, u16)>) -> String {
+    match span {
+        None => "none".to_string(),
+        Some((first, last)) => format!("{first} {last}"),
+    }
+}
+
+/// Two sums modulo 2^64: of each number plus one, and of the first sum so far.
+pub fn digest(numbers: &[u16]) -> String {
+    let (mut a, mut b) = (0u64, 0u64);
+    for number in numbers {
+        a = a.wrapping_add(u64::from(*number) + 1);
+        b = b.wrapping_add(a);
+    }
+    format!("{a:016x}{b:016x}")
+}
+
+pub fn bit(value: bool) -> u8 {
+    u8::from(value)
+}
+
+pub fn line(out: &mut String, text: std::fmt::Arguments<'_>) {
+    out.write_fmt(text).expect("a String takes all");
+    out.push('\n');
+}
+
+/// Each byte in hex after a space; of a list above 14 bytes only those that fit.
+fn list(bytes: &[u8]) -> String {
+    let kept = bytes.iter().take(MAX_PARAMS);
+    kept.map(|byte| format!(" {byte:02x}")).collect()
+}
+
+fn hex_or_none(byte: Option<u8>) -> String {
+    byte.map_or("none".to_string(), |byte| format!("{byte:02x}"))
+}
+
+fn number_or_none(number: Option<u64>) -> String {
+    number.map_or("none".to_string(), |number| number.to_string())
+}

@@ -1,0 +1,372 @@
+//! Scripts of calls: each line is read, tested against the table of refusals, and run on the Rust.
+
+use pemu_core::hostio::FramePort;
+use pemu_core::time::VTime;
+
+use crate::backlight::reach::pair;
+use crate::refusals::{self, Lent};
+use crate::report::{self, RULES, VIEWS, bit, digest, line};
+use crate::st7789::reach::fields;
+use crate::st7789::{FrameView, PANEL_HEIGHT, PANEL_PIXELS, PANEL_WIDTH, PanelConfig, St7789p3};
+use crate::st7789::{STORED_COMMANDS, TimingWarning, TraceEntry};
+use crate::traits::{BoardDomain, Chip};
+
+/// The longest BYTES of a transfer: one more than the longest segment.
+const BYTES_LIMIT: usize = refusals::SEGMENT_LIMIT + 1;
+
+/// The longest length that can be lent: one more than the panel has pixels.
+const LEND_LIMIT: u64 = PANEL_PIXELS as u64 + 1;
+
+/// The highest count of a list that `set` makes.
+const COUNT_LIMIT: usize = 255;
+
+/// The panel with its memory inside, the frame, and the lengths with which buffers are lent.
+struct Bench {
+    panel: St7789p3,
+    port: FramePort,
+    lent: Lent,
+}
+
+/// What a script prints.
+pub fn run(script: &[u8]) -> String {
+    let mut bench = Bench {
+        panel: fresh(true),
+        port: FramePort::zeros(PANEL_PIXELS),
+        lent: Lent::FULL,
+    };
+    let mut out = String::new();
+    for (at, text) in script.split(|byte| *byte == b'\n').enumerate() {
+        let text = text.split(|byte| *byte == b'#').next().unwrap_or_default();
+        let words: Vec<&[u8]> = text
+            .split(|byte| *byte == b' ')
+            .filter(|word| !word.is_empty())
+            .collect();
+        if !words.is_empty() && bench.call(&words, &mut out).is_none() {
+            line(&mut out, format_args!("bad line {}", at + 1));
+            return out;
+        }
+    }
+    report::dump(&bench.panel, &bench.port.pixels, &mut out);
+    out
+}
+
+fn fresh(switch: bool) -> St7789p3 {
+    St7789p3::new(PanelConfig {
+        invon_shows_ram: switch,
+    })
+}
+
+impl Bench {
+    /// Runs one line; `None` when it makes no sense.
+    fn call(&mut self, words: &[&[u8]], out: &mut String) -> Option<()> {
+        match words {
+            [b"transfer", time, dc, cs, bytes] => {
+                let (time, dc, cs) = (long(time)?, flag(dc)?, flag(cs)?);
+                let bytes = byte_list(bytes, BYTES_LIMIT)?;
+                let tested = refusals::transfer(&self.panel, self.lent, bytes.len());
+                if accepted(tested, out) {
+                    self.panel.transfer(VTime(time), dc, &bytes, cs);
+                }
+            }
+            [b"bare", time, dc, cs, bytes] => {
+                let (time, dc, cs) = (long(time)?, flag(dc)?, flag(cs)?);
+                let bytes = byte_list(bytes, BYTES_LIMIT)?;
+                let tested = refusals::bare(&self.panel, bytes.len());
+                if accepted(tested, out) {
+                    // The Rust has no such call: it writes to a copy of its memory, which is dropped.
+                    let memory = fields(&mut self.panel).ram.clone();
+                    self.panel.transfer(VTime(time), dc, &bytes, cs);
+                    *fields(&mut self.panel).ram = memory;
+                }
+            }
+            [b"power", on] => self.panel.set_powered(flag(on)?),
+            [b"switch", on] => self.panel.set_invon_shows_ram(flag(on)?),
+            [b"brightness", level, scale, duty] => {
+                let (level, scale) = (word32(level)?, word32(scale)?);
+                let duty = word16(duty)?;
+                let panel = fields(&mut self.panel);
+                *panel.brightness = pair(level, scale);
+                *panel.frame_duty = duty;
+            }
+            [b"mark-all"] => self.panel.mark_all_dirty(),
+            [b"take-warnings"] => {
+                let taken = self.panel.take_warnings();
+                line(out, format_args!("taken {}", taken.len()));
+                report::warning_lines(&taken, out);
+            }
+            [b"reset", domain] => {
+                let domain = BoardDomain::ALL
+                    .into_iter()
+                    .find(|d| d.name().as_bytes() == *domain)?;
+                if accepted(refusals::memory(self.lent), out) {
+                    self.panel.reset(domain);
+                }
+            }
+            [b"fresh", switch] => {
+                let mut panel = fresh(flag(switch)?);
+                if !accepted(refusals::memory(self.lent), out) {
+                    // No state came in, so a fresh one is given back; the memory stays.
+                    std::mem::swap(fields(&mut panel).ram, fields(&mut self.panel).ram);
+                }
+                self.panel = panel;
+            }
+            [b"publish"] => {
+                if accepted(refusals::publish(&self.panel, self.lent), out) {
+                    self.publish(out);
+                }
+            }
+            [b"view", name] => {
+                let (name, view) = view_named(name)?;
+                if accepted(refusals::view(self.lent), out) {
+                    let numbers = self.panel.frame(view);
+                    line(out, format_args!("view {name} {}", digest(&numbers)));
+                }
+            }
+            [b"pixel", name, x, y] => {
+                let (name, view) = view_named(name)?;
+                let (x, y) = (word16(x)?, word16(y)?);
+                if accepted(refusals::memory(self.lent), out) {
+                    let pixel = self.panel.pixel(view, x, y);
+                    line(out, format_args!("pixel {name} {x} {y} {pixel:04x}"));
+                }
+            }
+            [b"row", b"panel", row] => {
+                let row = word16(row)?;
+                let text = self.row(self.panel.raw(), row);
+                line(out, format_args!("row panel {row} {text}"));
+            }
+            [b"row", b"frame", row] => {
+                let row = word16(row)?;
+                let text = self.row(&self.port.pixels, row);
+                line(out, format_args!("row frame {row} {text}"));
+            }
+            [b"boot"] => match self.panel.boot_mismatch() {
+                None => line(out, format_args!("boot ok")),
+                Some(differs) => {
+                    let found = differs.found.as_ref().map(report::record_text);
+                    let found = found.unwrap_or("none".to_string());
+                    line(out, format_args!("boot {} {found}", differs.step));
+                }
+            },
+            [b"lend", b"memory", length] => self.lent.memory = lendable(length)?,
+            [b"lend", b"frame", length] => self.lent.frame = lendable(length)?,
+            [b"lend", b"view", length] => self.lent.view = lendable(length)?,
+            [b"dump"] => report::dump(&self.panel, &self.port.pixels, out),
+            [b"set", b"frame", pixel] => self.port.pixels.fill(hex(pixel, 4)?),
+            [b"set", field, values @ ..] => set(&mut self.panel, field, values)?,
+            _ => return None,
+        }
+        Some(())
+    }
+
+    fn publish(&mut self, out: &mut String) {
+        self.port.marked = None;
+        let span = self.panel.publish(&mut self.port);
+        let port = &self.port;
+        assert_eq!(span, port.marked, "the rows marked are the span answered");
+        line(
+            out,
+            format_args!(
+                "publish {} {} {} {} {} {} {}",
+                report::span(span),
+                bit(port.powered),
+                bit(port.sleeping),
+                bit(port.inverted),
+                bit(port.display_on),
+                bit(port.invon_shows_ram),
+                port.backlight,
+            ),
+        );
+    }
+
+    /// A row's digest; the Rust has no such call, so document 01's rule is written here.
+    fn row(&self, numbers: &[u16], row: u16) -> String {
+        let full = self.lent.memory == PANEL_PIXELS && self.lent.frame == PANEL_PIXELS;
+        if !full || row >= PANEL_HEIGHT {
+            return "empty".to_string();
+        }
+        let width = usize::from(PANEL_WIDTH);
+        let at = usize::from(row) * width;
+        digest(&numbers[at..at + width])
+    }
+}
+
+/// Prints a refusal, if it is one.
+fn accepted(tested: Result<(), u8>, out: &mut String) -> bool {
+    if let Err(number) = tested {
+        line(out, format_args!("refused {number}"));
+    }
+    tested.is_ok()
+}
+
+/// Sets one field of the panel; `None` when the words make no sense.
+fn set(panel: &mut St7789p3, field: &[u8], values: &[&[u8]]) -> Option<()> {
+    let panel = fields(panel);
+    match (field, values) {
+        (b"sleeping", [on]) => *panel.sleeping = flag(on)?,
+        (b"on", [on]) => *panel.display_on = flag(on)?,
+        (b"inverted", [on]) => *panel.inverted = flag(on)?,
+        (b"run", [on]) => *panel.in_pixels = flag(on)?,
+        (b"applied", [on]) => *panel.applied = flag(on)?,
+        (b"madctl", [byte]) => *panel.madctl = byte_word(byte)?,
+        (b"colmod", [byte]) => *panel.colmod = byte_word(byte)?,
+        (b"ramctrl", [bytes]) => *panel.ramctrl = hex(bytes, 4)?.to_be_bytes(),
+        (b"win", [xs, xe, ys, ye, x, y]) => {
+            let (left, right, top, bottom) = (word16(xs)?, word16(xe)?, word16(ys)?, word16(ye)?);
+            let (column, row) = (word16(x)?, word16(y)?);
+            (*panel.xs, *panel.xe, *panel.ys, *panel.ye) = (left, right, top, bottom);
+            (*panel.x, *panel.y) = (column, row);
+        }
+        (b"carry", [b"none"]) => *panel.carry = None,
+        (b"carry", [byte]) => *panel.carry = Some(byte_word(byte)?),
+        (b"cmd", [b"none"]) => *panel.cmd = None,
+        (b"cmd", [byte]) => *panel.cmd = Some(byte_word(byte)?),
+        (b"params", [bytes]) => *panel.params = byte_list(bytes, COUNT_LIMIT)?,
+        (b"stored", [c, bytes]) => {
+            let c = byte_word(c)?;
+            if !STORED_COMMANDS.contains(&c) {
+                return None;
+            }
+            let list = match *bytes {
+                b"none" => None,
+                bytes => Some(byte_list(bytes, COUNT_LIMIT)?),
+            };
+            // The Rust keeps its lists sorted by command.
+            panel.stored.retain(|(key, _)| *key != c);
+            if let Some(list) = list {
+                let at = panel.stored.partition_point(|(key, _)| *key < c);
+                panel.stored.insert(at, (c, list));
+            }
+        }
+        (b"commands", [n]) => *panel.commands = long(n)?,
+        (b"ramwrs", [n]) => *panel.ramwr_count = long(n)?,
+        (b"pixels", [n]) => *panel.pixels_written = long(n)?,
+        (b"dropped", [n]) => *panel.dropped_params = long(n)?,
+        (b"dirty", [b"none"]) => *panel.dirty = None,
+        (b"dirty", [first, last]) => *panel.dirty = Some((word16(first)?, word16(last)?)),
+        (b"slpout", [b"none"]) => *panel.last_slpout = None,
+        (b"slpout", [time]) => *panel.last_slpout = Some(VTime(long(time)?)),
+        (b"slpin", [time]) => *panel.last_slpin = Some(VTime(long(time)?)),
+        (b"trace", [b"none"]) => panel.trace.clear(),
+        (b"trace", [c, time, pixel_bytes, bytes]) => {
+            let record = TraceEntry {
+                cmd: byte_word(c)?,
+                params: byte_list(bytes, COUNT_LIMIT)?,
+                pixel_bytes: long(pixel_bytes)?,
+                at: VTime(long(time)?),
+            };
+            if panel.trace.len() == COUNT_LIMIT {
+                return None;
+            }
+            panel.trace.push(record);
+        }
+        (b"current", [b"none"]) => *panel.trace_cur = None,
+        (b"current", [index]) => *panel.trace_cur = Some(decimal(index, 255)? as usize),
+        (b"warnings", [b"none"]) => panel.warnings.clear(),
+        (b"warnings", [rule, c, time]) => {
+            let rule = decimal(rule, 3)? as usize;
+            let warning = TimingWarning {
+                lint: *RULES.get(rule.checked_sub(1)?)?,
+                cmd: byte_word(c)?,
+                at: VTime(long(time)?),
+            };
+            if panel.warnings.len() == COUNT_LIMIT {
+                return None;
+            }
+            panel.warnings.push(warning);
+        }
+        (b"memory", [pixel]) => panel.ram.fill(hex(pixel, 4)?),
+        _ => return None,
+    }
+    Some(())
+}
+
+fn view_named(name: &[u8]) -> Option<(&'static str, FrameView)> {
+    VIEWS
+        .into_iter()
+        .find(|(known, _)| known.as_bytes() == name)
+}
+
+fn lendable(word: &[u8]) -> Option<usize> {
+    Some(decimal(word, LEND_LIMIT)? as usize)
+}
+
+fn flag(word: &[u8]) -> Option<bool> {
+    match word {
+        b"0" => Some(false),
+        b"1" => Some(true),
+        _ => None,
+    }
+}
+
+fn word16(word: &[u8]) -> Option<u16> {
+    Some(decimal(word, u64::from(u16::MAX))? as u16)
+}
+
+fn word32(word: &[u8]) -> Option<u32> {
+    Some(decimal(word, u64::from(u32::MAX))? as u32)
+}
+
+fn long(word: &[u8]) -> Option<u64> {
+    decimal(word, u64::MAX)
+}
+
+/// One or more decimal digits with a value of at most `most`.
+fn decimal(word: &[u8], most: u64) -> Option<u64> {
+    if word.is_empty() {
+        return None;
+    }
+    let mut value = 0u64;
+    for digit in word {
+        if !digit.is_ascii_digit() {
+            return None;
+        }
+        value = value
+            .checked_mul(10)?
+            .checked_add(u64::from(digit - b'0'))?;
+    }
+    (value <= most).then_some(value)
+}
+
+fn byte_word(word: &[u8]) -> Option<u8> {
+    Some(hex(word, 2)? as u8)
+}
+
+/// Exactly this many lower-case hex digits, at most four.
+fn hex(word: &[u8], digits: usize) -> Option<u16> {
+    if word.len() != digits {
+        return None;
+    }
+    word.iter().try_fold(0, |value, digit| {
+        let digit = match digit {
+            b'0'..=b'9' => digit - b'0',
+            b'a'..=b'f' => digit - b'a' + 10,
+            _ => return None,
+        };
+        Some(value << 4 | u16::from(digit))
+    })
+}
+
+/// BYTES of at most `most` bytes.
+fn byte_list(word: &[u8], most: usize) -> Option<Vec<u8>> {
+    let mut bytes = Vec::new();
+    if word == b"-" {
+        return Some(bytes);
+    }
+    for piece in word.split(|byte| *byte == b',') {
+        let mut halves = piece.splitn(2, |byte| *byte == b'*');
+        let digits = halves.next()?;
+        let count = halves.next().map_or(Some(1), long)?;
+        if digits.is_empty() || digits.len() % 2 != 0 {
+            return None;
+        }
+        let part: Option<Vec<u8>> = digits.chunks(2).map(byte_word).collect();
+        let part = part?;
+        let total = count.checked_mul(part.len() as u64)?;
+        if total > (most - bytes.len()) as u64 {
+            return None;
+        }
+        bytes.extend(part.repeat(count as usize));
+    }
+    Some(bytes)
+}

@@ -107,18 +107,20 @@ fn lesser(n: u8, most: usize) -> usize
     if wide < most { wide } else { most }
 }
 
-fn put_params(out: &mut [u8], at: usize, p: Params) -> usize
-    ensures { λ r. ⌜ r ≡ appended (now (out .entry)) at (hexBytes (listed p)) .count ⌝ }
-    ensures { λ r. ⌜ now (out .exit) ≡ appended (now (out .entry)) at (hexBytes (listed p)) .places ⌝ }
+// The parameters of a list, each in hex after a space.
+pub fn put_params(out: &mut [u8], at: usize, p: Params) -> usize
+    ensures answer { λ r. ⌜ r ≡ appended (now (out .entry)) at (hexBytes (listed p)) .count ⌝ }
+    ensures lent { λ r. ⌜ now (out .exit) ≡ appended (now (out .entry)) at (hexBytes (listed p)) .places ⌝ }
 {
     let n = lesser(p.count, 14);
     let bytes = p.bytes;
     lines::put_hex_bytes(out, at, &bytes[..n])
 }
 
-fn put_record(out: &mut [u8], at: usize, r: TraceRecord) -> usize
-    ensures { λ n. ⌜ n ≡ appended (now (out .entry)) at (traceLine r) .count ⌝ }
-    ensures { λ n. ⌜ now (out .exit) ≡ appended (now (out .entry)) at (traceLine r) .places ⌝ }
+// A trace record as its `t` line.
+pub fn put_record(out: &mut [u8], at: usize, r: TraceRecord) -> usize
+    ensures answer { λ n. ⌜ n ≡ appended (now (out .entry)) at (traceLine r) .count ⌝ }
+    ensures lent { λ n. ⌜ now (out .exit) ≡ appended (now (out .entry)) at (traceLine r) .places ⌝ }
 {
     let params = r.params;
     let named = text::put_bytes(out, at, b"t");
@@ -128,9 +130,10 @@ fn put_record(out: &mut [u8], at: usize, r: TraceRecord) -> usize
     text::put_byte(out, listed, b'\n')
 }
 
-fn put_warnings(out: &mut [u8], at: usize, warnings: [Warning; 128], n: u8) -> usize
-    ensures { λ r. ⌜ r ≡ appended (now (out .entry)) at (texts warningLine (take n warnings)) .count ⌝ }
-    ensures { λ r. ⌜ now (out .exit) ≡ appended (now (out .entry)) at (texts warningLine (take n warnings)) .places ⌝ }
+// The used warnings, each as its `w` line.
+pub fn put_warnings(out: &mut [u8], at: usize, warnings: [Warning; 128], n: u8) -> usize
+    ensures answer { λ r. ⌜ r ≡ appended (now (out .entry)) at (texts warningLine (take n warnings)) .count ⌝ }
+    ensures lent { λ r. ⌜ now (out .exit) ≡ appended (now (out .entry)) at (texts warningLine (take n warnings)) .places ⌝ }
 {
     let end = lesser(n, 128);
     let mut used = at;

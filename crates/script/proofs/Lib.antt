@@ -1,0 +1,4 @@
+pub mod Scanning
+pub mod Parts
+pub mod Alike
+pub mod Reading

@@ -1,7 +1,7 @@
 -- What it is for a promise to leave no room, and the two steps by which each of them does not.
 use Prim.Native.Nat.{ℕ}
 use mathlib.Core.Path.{_≡_, refl, sym, ap, _∙_}
-use mathlib.Core.List.{List, [], _∷_}
+use mathlib.Core.List.{[], _∷_}
 use lib.ListN.{getD}
 use contract.Lifetimes.{Lfts}
 use denote.Triple.Entry.{Args, Res}

@@ -19,6 +19,9 @@ use Rattle.text.proofs.put_hex as put-hex
 use Rattle.lines.proofs.put_numbers as put-numbers
 use Rattle.lines.proofs.put_hex_bytes as put-hex-bytes
 use Rattle.lines.proofs.put_line as put-line
+use Rattle.report.proofs.put_params as put-params
+use Rattle.report.proofs.put_record as put-record
+use Rattle.report.proofs.put_warnings as put-warnings
 use Rattle.report.proofs.write_report as write-report
 use Rattle.boot.proofs.BootStep.at as at
 use Rattle.boot.proofs.BootCheck.number as step-number
@@ -51,6 +54,15 @@ put-hex-bytes-one κs args x y u v p q = (same (p .0) (q .0), λ i. (same (p .1)
 
 pub put-line-one : Only put-line.ended put-line.Reads.Learnt
 put-line-one κs args x y u v p q = (same (p .0) (q .0), λ i. (same (p .1) (q .1) i, (tt, (tt, (tt, tt)))))
+
+pub put-params-one : Only put-params.ended put-params.Reads.Learnt
+put-params-one κs args x y u v p q = (same (p .0) (q .0), λ i. (same (p .1) (q .1) i, (tt, (tt, tt))))
+
+pub put-record-one : Only put-record.ended put-record.Reads.Learnt
+put-record-one κs args x y u v p q = (same (p .0) (q .0), λ i. (same (p .1) (q .1) i, (tt, (tt, tt))))
+
+pub put-warnings-one : Only put-warnings.ended put-warnings.Reads.Learnt
+put-warnings-one κs args x y u v p q = (same (p .0) (q .0), λ i. (same (p .1) (q .1) i, (tt, (tt, (tt, tt)))))
 
 pub write-report-one : Only write-report.ended write-report.Reads.Learnt
 write-report-one κs args x y u v p q = (same (p .0) (q .0), λ i. (tt, (same (p .1) (q .1) i, tt)))

@@ -1,4 +1,0 @@
-pub mod Scanning
-pub mod Parts
-pub mod Alike
-pub mod Reading

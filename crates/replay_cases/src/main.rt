@@ -1,4 +1,4 @@
-// Replays each log of data/ and prints its name and what panel-replay prints of it.
+// Replays each log of data/ and prints its name and what panel-replay prints of it; of the boot rows also what D0 holds.
 fn show(name: &[u8]) {
     let mut log = [0u8; 65537];
     let mut out = [0u8; 18000];
@@ -13,6 +13,27 @@ fn show(name: &[u8]) {
     libc::close(fd);
     let written = replay::print_log(&log[..n], &mut out);
     io::write_all(1, &out[..written]);
+}
+
+// The parameters that a stored command has after a log.
+fn show_stored(name: &[u8], code: u8) {
+    let mut log = [0u8; 65537];
+    let mut out = [0u8; 64];
+    let fd = os::open_read(name);
+    let n = io::read_full(fd, &mut log);
+    libc::close(fd);
+    let answer = replay::replay(&log[..n]);
+    let controller = answer.controller;
+    let at = lists::stored_place(code);
+    if at < 12 {
+        let entry = controller.stored[at];
+        let params = entry.params;
+        let named = lines::put_hex_bytes(&mut out, 0, &[code]);
+        let written = report::put_params(&mut out, named, params);
+        io::write_all(1, b"stored");
+        io::write_all(1, &out[..written]);
+        io::write_all(1, b"\n");
+    }
 }
 
 fn form() {
@@ -47,6 +68,7 @@ fn traffic() {
 
 fn boot_rows() {
     show(b"boot");
+    show_stored(b"boot", 0xD0);
     show(b"boot_short_by_one");
     show(b"boot_one_parameter_more");
     show(b"boot_and_one_more");

@@ -49,11 +49,12 @@ fn main() {
     let folder = repository.join(folder);
 
     println!("cargo::rerun-if-env-changed=PANEL_SRC");
+    let changes = changes(&package);
     println!("cargo::rerun-if-changed=build.rs");
     let mut modules = String::new();
     for source in &SOURCES {
         let copy = out.join(format!("{}.rs", source.module));
-        take(&folder.join(source.file), source, &package, &copy);
+        take(&folder.join(source.file), source, &package, &copy, &changes);
         modules.push_str(&format!(
             "#[allow(dead_code)]\n#[path = {:?}]\npub mod {};\n",
             text(&copy),
@@ -63,8 +64,72 @@ fn main() {
     write(&out.join("sources.rs"), modules.as_bytes());
 }
 
+/// A line of a source's copy that PANEL_CHANGE has replaced.
+struct Change {
+    module: String,
+    number: usize,
+    old: String,
+    new: String,
+}
+
+/// The changes that PANEL_CHANGE asks for: `FILE` all those in FILE, `FILE:NAME` the one named so.
+/// Only the script `mutants` sets it; without it every copy is unchanged.
+fn changes(package: &Path) -> Vec<Change> {
+    println!("cargo::rerun-if-env-changed=PANEL_CHANGE");
+    let wanted = env::var("PANEL_CHANGE").unwrap_or_default();
+    println!("cargo::rustc-env=ORACLE_CHANGED={wanted}");
+    if wanted.is_empty() {
+        return Vec::new();
+    }
+    let (file, name) = wanted.split_once(':').unwrap_or((&wanted, ""));
+    let path = package.join(file);
+    println!("cargo::rerun-if-changed={}", text(&path));
+    let Ok(list) = fs::read_to_string(&path) else {
+        refuse(&format!("cannot read {file}"));
+    };
+    let mut changes = Vec::new();
+    for block in list.split("\n\n") {
+        let field = |name: &str| {
+            let found = block.lines().find_map(|line| line.strip_prefix(name));
+            found.map(str::trim).map(str::to_string)
+        };
+        let Some(own) = field("name:") else { continue };
+        if !name.is_empty() && own != name {
+            continue;
+        }
+        let place = field("line:").unwrap_or_default();
+        let (module, number) = place.split_once(' ').unwrap_or_default();
+        changes.push(Change {
+            module: module.to_string(),
+            number: number.parse().unwrap_or(0),
+            old: field("old:").unwrap_or_default(),
+            new: field("new:").unwrap_or_default(),
+        });
+    }
+    if changes.is_empty() {
+        refuse(&format!("no change {wanted}"));
+    }
+    changes
+}
+
+/// Replaces the lines of one source that its changes name; the old text must stand there.
+fn change(bytes: &[u8], module: &str, changes: &[Change]) -> Vec<u8> {
+    let source = String::from_utf8(bytes.to_vec()).expect("a source in UTF-8");
+    let mut lines: Vec<String> = source.lines().map(str::to_string).collect();
+    for change in changes.iter().filter(|change| change.module == module) {
+        match lines.get_mut(change.number.wrapping_sub(1)) {
+            Some(line) if line.trim() == change.old => *line = change.new.clone(),
+            _ => refuse(&format!(
+                "line {} of {module} is not {}",
+                change.number, change.old
+            )),
+        }
+    }
+    lines.join("\n").into_bytes()
+}
+
 /// Checks one source and writes its copy: the unchanged bytes, then the line that hangs our module on.
-fn take(from: &Path, source: &Source, package: &Path, to: &Path) {
+fn take(from: &Path, source: &Source, package: &Path, to: &Path, changes: &[Change]) {
     println!("cargo::rerun-if-changed={}", text(from));
     let Ok(bytes) = fs::read(from) else {
         refuse(&format!(
@@ -80,6 +145,9 @@ fn take(from: &Path, source: &Source, package: &Path, to: &Path) {
         ));
     }
     let mut copy = bytes;
+    if !changes.is_empty() {
+        copy = change(&copy, source.module, changes);
+    }
     if let Some(reach) = source.reach {
         let reach = package.join("src").join(reach);
         println!("cargo::rerun-if-changed={}", text(&reach));

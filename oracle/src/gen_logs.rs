@@ -7,6 +7,11 @@ use crate::traffic::Traffic;
 
 /// The log of a seed.
 pub fn log(seed: u64) -> Vec<u8> {
+    log_of(seed, 40)
+}
+
+/// The log of a seed; most have at most this many scenes.
+pub fn log_of(seed: u64, most: u64) -> Vec<u8> {
     let random = &mut Random::new(seed);
     match random.below(20) {
         0 => damaged(random),
@@ -16,8 +21,8 @@ pub fn log(seed: u64) -> Vec<u8> {
         4 => boot_and_boxes(random),
         5 => many_records(random),
         6 => long_run(random),
-        7 if random.one_in(2) => every_madctl(random),
-        _ => traffic(random, 40).0,
+        7 if random.one_in(most / 2) => every_madctl(random),
+        _ => traffic(random, most).0,
     }
 }
 

@@ -95,26 +95,32 @@ const BAD_LINES: [&str; 52] = [
 
 /// The script of a seed.
 pub fn script(seed: u64) -> String {
+    script_of(seed, 14)
+}
+
+/// The script of a seed with at most this many scenes.
+pub fn script_of(seed: u64, most: u64) -> String {
     let random = &mut Random::new(seed);
     let mut writer = Writer { lines: Vec::new() };
-    if random.one_in(5) {
+    if random.one_in(if most > 6 { 5 } else { 12 }) {
         writer.boot(random);
     }
     if random.one_in(2) {
         writer.lit(random);
     }
-    if random.one_in(30) {
+    if random.one_in(if most > 6 { 30 } else { 150 }) {
         writer.every_madctl(random);
     }
-    let scenes = random.within(1, 14);
+    let scenes = random.within(1, most);
     for _ in 0..scenes {
-        match random.below(14) {
-            0..=4 => writer.traffic(random),
+        match random.below(15) {
+            0..=4 => writer.traffic(random, most.min(6)),
             5 => writer.views(random),
             6 => writer.lent_lengths(random),
             7 | 8 => writer.odd_state(random),
             9..=11 => writer.bad_state(random),
-            12 => writer.long_lists(random),
+            12 if most > 6 || random.one_in(3) => writer.long_lists(random),
+            13 => writer.call_then_go_on(random),
             _ => writer.long_segments(random),
         }
         for _ in 0..random.below(3) {
@@ -202,9 +208,9 @@ impl Writer {
     }
 
     /// Scenes of transfers with other calls between them.
-    fn traffic(&mut self, random: &mut Random) {
+    fn traffic(&mut self, random: &mut Random, most: u64) {
         let mut traffic = Traffic::new(random);
-        for _ in 0..traffic.random.within(1, 6) {
+        for _ in 0..traffic.random.within(1, most) {
             traffic.scene();
         }
         for segment in traffic.take() {
@@ -212,6 +218,24 @@ impl Writer {
             if random.one_in(12) {
                 self.any_call(random);
             }
+        }
+    }
+
+    /// A run that leaves a byte waiting or not, one other call, then 3C or more data.
+    fn call_then_go_on(&mut self, random: &mut Random) {
+        for _ in 0..random.within(1, 3) {
+            let begin = random.pick(&["2c", "2c", "3c", "363c", "002c"]);
+            self.line(format!("transfer 3 0 0 {begin}"));
+            let bytes = random.pick(&["f8", "f80007", "f80007e0", "-", "00*485"]);
+            self.line(format!("transfer 3 1 0 {bytes}"));
+            self.any_call(random);
+            if !random.one_in(4) {
+                self.line("transfer 3 0 0 3c");
+            }
+            let bytes = random.pick(&["1f", "001f", "07e000", "-"]);
+            let release = random.below(2);
+            self.line(format!("transfer 3 1 {release} {bytes}"));
+            self.line("publish");
         }
     }
 
@@ -365,7 +389,7 @@ impl Writer {
         }
         self.probes(random);
         if random.one_in(2) {
-            self.traffic(random);
+            self.traffic(random, 2);
         }
         if random.one_in(3) {
             self.line("dump");
@@ -454,7 +478,7 @@ impl Writer {
             return;
         }
         self.line("set trace none");
-        let before = random.pick(&[0, 0, 1, 2, 126, 127]);
+        let before = random.pick(&[0, 0, 0, 0, 0, 1, 1, 1, 2, 2, 126, 127]);
         for at in 0..before {
             let high = random.pick(&COUNTS);
             self.line(format!("set trace {:02x} {at} {high} -", random.byte()));
@@ -497,8 +521,10 @@ impl Writer {
             }
             4 => {
                 let length = random.pick(&[13, 14, 15, 16, 255]);
+                self.line(format!("set trace {:02x} 0 0 01*{length}", random.byte()));
+                let after = random.pick(&["-", "5a", "5a*14"]);
                 (
-                    format!("set trace {:02x} 0 0 01*{length}", random.byte()),
+                    format!("set trace {:02x} 1 0 {after}", random.byte()),
                     "set trace none".to_string(),
                 )
             }

@@ -2,6 +2,7 @@
 
 use pemu_core::time::VTime;
 
+use crate::coverage::Coverage;
 use crate::refusals::{BAD_LOG, LOG_LIMIT, LOG_LONG};
 use crate::report::replay_lines;
 use crate::st7789::{PanelConfig, St7789p3};
@@ -60,15 +61,31 @@ pub fn record_bytes(segment: &Segment) -> Vec<u8> {
 
 /// What panel-replay prints of a log.
 pub fn replay(log: &[u8]) -> String {
+    replay_seen(log, None)
+}
+
+/// What panel-replay prints of a log; its transfers are counted in `seen`.
+pub fn replay_seen(log: &[u8], mut seen: Option<&mut Coverage>) -> String {
     let records = match records(log) {
-        Err((number, offset)) => return format!("refused {number} {offset}\n"),
+        Err((number, offset)) => {
+            if let Some(seen) = seen {
+                seen.refused("log", number);
+            }
+            return format!("refused {number} {offset}\n");
+        }
         Ok(records) => records,
     };
     let mut panel = St7789p3::new(PanelConfig {
         invon_shows_ram: true,
     });
     for r in &records {
-        panel.transfer(VTime(r.time), r.dc, &r.bytes, r.release);
+        match &mut seen {
+            None => panel.transfer(VTime(r.time), r.dc, &r.bytes, r.release),
+            Some(seen) => {
+                seen.call("record");
+                seen.transfer(&mut panel, r.time, r.dc, &r.bytes, r.release);
+            }
+        }
     }
     let mut out = String::new();
     replay_lines(&panel, &mut out);

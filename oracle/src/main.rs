@@ -6,9 +6,14 @@ use std::io::{self, Read, Write};
 use std::path::Path;
 use std::process::ExitCode;
 
+mod cases;
+mod compare;
+mod coverage;
 mod gen_logs;
 mod gen_scripts;
+mod lists;
 mod log;
+mod marks;
 mod random;
 mod refusals;
 mod report;
@@ -34,6 +39,13 @@ oracle: runs the unchanged Rust model of the panel
   oracle script < SCRIPT             what a script of calls prints
   oracle gen-logs SEED N DIR         writes N generated logs into the folder DIR
   oracle gen-scripts SEED N DIR      writes N generated scripts into the folder DIR
+  oracle compare SEED CASES          compares our programs with the Rust on generated cases
+  oracle cover SEED CASES            what these cases cover, by the Rust alone
+  oracle record SEED CASES FILE      writes cases and our programs' answers into FILE
+  oracle against FILE                compares the Rust with the answers in FILE
+  oracle make-lists DIR              writes the fixed lists into the folder DIR
+  oracle check-lists DIR             compares the Rust with the answers of the fixed lists
+  oracle branches DIR                which branches of the Rust the fixed lists pass
 Each subcommand says more when run without arguments (replay and script: at a terminal, or with -h).
 ";
 
@@ -76,6 +88,13 @@ fn main() -> ExitCode {
             let write = |seed| gen_scripts::script(seed).into_bytes();
             generate(seed, n, folder, "script", GEN_SCRIPTS_USAGE, write)
         }
+        ["compare", ref rest @ ..] => unchanged().and_then(|()| compare::compare(rest)),
+        ["cover", ref rest @ ..] => compare::cover(rest),
+        ["record", ref rest @ ..] => unchanged().and_then(|()| compare::record(rest)),
+        ["against", ref rest @ ..] => compare::against(rest),
+        ["make-lists", ref rest @ ..] => unchanged().and_then(|()| lists::make(rest)),
+        ["check-lists", ref rest @ ..] => lists::check(rest),
+        ["branches", ref rest @ ..] => lists::branches(rest),
         ["gen-logs", ..] => return usage(GEN_LOGS_USAGE),
         ["gen-scripts", ..] => return usage(GEN_SCRIPTS_USAGE),
         _ => return usage(USAGE),
@@ -86,6 +105,14 @@ fn main() -> ExitCode {
             eprintln!("oracle: {error}");
             ExitCode::FAILURE
         }
+    }
+}
+
+/// Stops what needs the unchanged Rust in a build whose copy was changed for `mutants`.
+fn unchanged() -> io::Result<()> {
+    match env!("ORACLE_CHANGED") {
+        "" => Ok(()),
+        change => Err(io::Error::other(format!("this build holds {change}"))),
     }
 }
 
@@ -119,9 +146,8 @@ fn generate(
     };
     fs::create_dir_all(folder)?;
     for k in 0..n {
-        let own = random::Random::new(seed).next() ^ random::Random::new(k).next().rotate_left(17);
         let path = Path::new(folder).join(format!("{k:05}.{ending}"));
-        fs::write(path, case(own))?;
+        fs::write(path, case(random::case_seed(seed, k)))?;
     }
     Ok(ExitCode::SUCCESS)
 }

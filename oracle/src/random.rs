@@ -44,3 +44,8 @@ impl Random {
         (0..length).map(|_| self.byte()).collect()
     }
 }
+
+/// The own seed of case `number` of a seed.
+pub fn case_seed(seed: u64, number: u64) -> u64 {
+    Random::new(seed).next() ^ Random::new(number).next().rotate_left(17)
+}

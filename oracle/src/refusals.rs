@@ -76,37 +76,66 @@ fn segment(length: usize) -> Result<(), u8> {
 }
 
 fn counts(panel: &St7789p3) -> Result<(), u8> {
+    test(!high_counts(panel).is_empty(), COUNT_HIGH)
+}
+
+/// The counts above 2^63, by name.
+pub fn high_counts(panel: &St7789p3) -> Vec<&'static str> {
     let current = hidden(panel).trace_cur.and_then(|at| panel.trace().get(at));
-    let high = panel.commands() > COUNT_LIMIT
-        || panel.ramwr_count() > COUNT_LIMIT
-        || panel.pixels_written() > COUNT_LIMIT
-        || panel.dropped_param_bytes() > COUNT_LIMIT
-        || current.is_some_and(|record| record.pixel_bytes > COUNT_LIMIT);
-    test(high, COUNT_HIGH)
+    named(&[
+        ("commands", panel.commands() > COUNT_LIMIT),
+        ("ramwrs", panel.ramwr_count() > COUNT_LIMIT),
+        ("pixels", panel.pixels_written() > COUNT_LIMIT),
+        ("dropped", panel.dropped_param_bytes() > COUNT_LIMIT),
+        (
+            "pixel bytes",
+            current.is_some_and(|record| record.pixel_bytes > COUNT_LIMIT),
+        ),
+    ])
 }
 
 fn state(panel: &St7789p3) -> Result<(), u8> {
+    test(!bad_clauses(panel).is_empty(), BAD_STATE)
+}
+
+/// The clauses of BAD_STATE that a state meets, by name.
+pub fn bad_clauses(panel: &St7789p3) -> Vec<&'static str> {
     let inner = hidden(panel);
     let (xs, xe, ys, ye) = panel.window();
     let (x, y) = panel.cursor();
-    let outside = [xs, xe, ys, ye, x, y].iter().any(|at| *at >= PANEL_HEIGHT);
-    let long_list = inner.params.len() > MAX_PARAMS
-        || inner.stored.iter().any(|(_, list)| list.len() > MAX_PARAMS)
-        || panel.trace().iter().any(|r| r.params.len() > MAX_PARAMS);
-    let many = panel.trace().len() > TRACE_LIMIT || panel.warnings().len() > TRACE_LIMIT;
-    let bad_span = panel
-        .dirty_rows()
-        .is_some_and(|(first, last)| first > last || last >= PANEL_HEIGHT);
-    let bad_current = inner
-        .trace_cur
-        .is_some_and(|at| match panel.trace().get(at) {
-            None => true,
-            Some(record) => at + 1 != panel.trace().len() || record.params != inner.params,
-        });
-    test(
-        outside || long_list || many || bad_span || bad_current,
-        BAD_STATE,
-    )
+    let long = |list: &Vec<u8>| list.len() > MAX_PARAMS;
+    let span = panel.dirty_rows();
+    let current = inner.trace_cur.map(|at| (at, panel.trace().get(at)));
+    let last = |at: usize| at + 1 == panel.trace().len();
+    named(&[
+        ("xs", xs >= PANEL_HEIGHT),
+        ("xe", xe >= PANEL_HEIGHT),
+        ("ys", ys >= PANEL_HEIGHT),
+        ("ye", ye >= PANEL_HEIGHT),
+        ("x", x >= PANEL_HEIGHT),
+        ("y", y >= PANEL_HEIGHT),
+        ("params", inner.params.len() > MAX_PARAMS),
+        ("stored", inner.stored.iter().any(|(_, list)| long(list))),
+        ("record", panel.trace().iter().any(|r| long(&r.params))),
+        ("trace", panel.trace().len() > TRACE_LIMIT),
+        ("warnings", panel.warnings().len() > TRACE_LIMIT),
+        ("span order", span.is_some_and(|(first, last)| first > last)),
+        (
+            "span end",
+            span.is_some_and(|(_, last)| last >= PANEL_HEIGHT),
+        ),
+        ("current", current.is_some_and(|(at, _)| !last(at))),
+        (
+            "current's params",
+            current.is_some_and(|(_, r)| r.is_some_and(|r| r.params != inner.params)),
+        ),
+    ])
+}
+
+/// The names whose test is true.
+fn named(tests: &[(&'static str, bool)]) -> Vec<&'static str> {
+    let met = tests.iter().filter(|(_, met)| *met);
+    met.map(|(name, _)| *name).collect()
 }
 
 fn test(refused: bool, number: u8) -> Result<(), u8> {

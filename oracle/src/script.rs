@@ -4,6 +4,7 @@ use pemu_core::hostio::FramePort;
 use pemu_core::time::VTime;
 
 use crate::backlight::reach::pair;
+use crate::coverage::Coverage;
 use crate::refusals::{self, Lent};
 use crate::report::{self, RULES, VIEWS, bit, digest, line};
 use crate::st7789::reach::fields;
@@ -20,19 +21,27 @@ const LEND_LIMIT: u64 = PANEL_PIXELS as u64 + 1;
 /// The highest count of a list that `set` makes.
 const COUNT_LIMIT: usize = 255;
 
-/// The panel with its memory inside, the frame, and the lengths with which buffers are lent.
-struct Bench {
+/// The panel with its memory inside, the frame, the lengths with which buffers are lent, and what
+/// was seen of the calls, where that is asked for.
+struct Bench<'a> {
     panel: St7789p3,
     port: FramePort,
     lent: Lent,
+    seen: Option<&'a mut Coverage>,
 }
 
 /// What a script prints.
 pub fn run(script: &[u8]) -> String {
+    run_seen(script, None)
+}
+
+/// What a script prints; its calls are counted in `seen`.
+pub fn run_seen(script: &[u8], seen: Option<&mut Coverage>) -> String {
     let mut bench = Bench {
         panel: fresh(true),
         port: FramePort::zeros(PANEL_PIXELS),
         lent: Lent::FULL,
+        seen,
     };
     let mut out = String::new();
     for (at, text) in script.split(|byte| *byte == b'\n').enumerate() {
@@ -41,7 +50,7 @@ pub fn run(script: &[u8]) -> String {
             .split(|byte| *byte == b' ')
             .filter(|word| !word.is_empty())
             .collect();
-        if !words.is_empty() && bench.call(&words, &mut out).is_none() {
+        if !words.is_empty() && bench.counted(&words, &mut out).is_none() {
             line(&mut out, format_args!("bad line {}", at + 1));
             return out;
         }
@@ -56,7 +65,29 @@ fn fresh(switch: bool) -> St7789p3 {
     })
 }
 
-impl Bench {
+impl Bench<'_> {
+    /// Runs one line and counts it; `None` when it makes no sense.
+    fn counted(&mut self, words: &[&[u8]], out: &mut String) -> Option<()> {
+        let Some(seen) = &mut self.seen else {
+            return self.call(words, out);
+        };
+        seen.before(&self.panel, words);
+        let start = out.len();
+        let done = self.call(words, out);
+        if let Some(seen) = &mut self.seen {
+            seen.after(words, done.map(|()| &out[start..]));
+        }
+        done
+    }
+
+    /// The Rust's transfer.
+    fn transfer(&mut self, time: u64, dc: bool, bytes: &[u8], release: bool) {
+        match &mut self.seen {
+            None => self.panel.transfer(VTime(time), dc, bytes, release),
+            Some(seen) => seen.transfer(&mut self.panel, time, dc, bytes, release),
+        }
+    }
+
     /// Runs one line; `None` when it makes no sense.
     fn call(&mut self, words: &[&[u8]], out: &mut String) -> Option<()> {
         match words {
@@ -65,7 +96,7 @@ impl Bench {
                 let bytes = byte_list(bytes, BYTES_LIMIT)?;
                 let tested = refusals::transfer(&self.panel, self.lent, bytes.len());
                 if accepted(tested, out) {
-                    self.panel.transfer(VTime(time), dc, &bytes, cs);
+                    self.transfer(time, dc, &bytes, cs);
                 }
             }
             [b"bare", time, dc, cs, bytes] => {
@@ -75,7 +106,7 @@ impl Bench {
                 if accepted(tested, out) {
                     // The Rust has no such call: it writes to a copy of its memory, which is dropped.
                     let memory = fields(&mut self.panel).ram.clone();
-                    self.panel.transfer(VTime(time), dc, &bytes, cs);
+                    self.transfer(time, dc, &bytes, cs);
                     *fields(&mut self.panel).ram = memory;
                 }
             }

@@ -1,0 +1,362 @@
+//! Counts what a run covered: calls, refusals, warnings, what became of the pixels.
+
+use std::collections::{BTreeMap, BTreeSet};
+
+use pemu_core::time::VTime;
+
+use crate::refusals::{bad_clauses, high_counts};
+use crate::report::{RULES, line};
+use crate::st7789::reach::{Fates, fates, hidden};
+use crate::st7789::{MAX_PARAMS, STORED_COMMANDS, St7789p3, TRACE_LIMIT};
+
+/// Lines of a script that are no calls of the model.
+const NO_CALLS: [&str; 3] = ["set", "lend", "dump"];
+
+#[derive(Default)]
+pub struct Coverage {
+    pub logs: u64,
+    pub scripts: u64,
+    /// Calls by name (`record`: a transfer of a log), and lines that are no calls.
+    calls: BTreeMap<String, u64>,
+    others: BTreeMap<String, u64>,
+    bad_lines: u64,
+    /// Refusals by the call's name and their number.
+    refusals: BTreeMap<(String, u8), u64>,
+    /// Warnings kept, by rule.
+    warnings: [u64; 3],
+    pixels: Fates,
+    /// Stored pixels under each MADCTL value.
+    madctl: BTreeMap<u8, u64>,
+    /// Data segments of a run that leave a byte waiting, and those that find one waiting.
+    left_waiting: u64,
+    found_waiting: u64,
+    /// What of the model was met, by name; only where `names` is set, since it takes time.
+    names: bool,
+    pub met: BTreeSet<String>,
+}
+
+impl Coverage {
+    /// One that also keeps what was met, by name.
+    pub fn naming() -> Coverage {
+        Coverage {
+            names: true,
+            ..Coverage::default()
+        }
+    }
+
+    pub fn call(&mut self, name: &str) {
+        *self.calls.entry(name.to_string()).or_default() += 1;
+    }
+
+    pub fn refused(&mut self, name: &str, number: u8) {
+        *self.refusals.entry((name.to_string(), number)).or_default() += 1;
+        self.meet(|| format!("{name} refused {number}"));
+    }
+
+    fn meet(&mut self, name: impl FnOnce() -> String) {
+        if self.names {
+            self.met.insert(name());
+        }
+    }
+
+    /// Looks at the state before a line of a script.
+    pub fn before(&mut self, panel: &St7789p3, words: &[&[u8]]) {
+        if !self.names {
+            return;
+        }
+        let call = text(words[0]);
+        if ["transfer", "bare", "publish"].contains(&call.as_str()) {
+            for clause in bad_clauses(panel) {
+                self.met.insert(format!("{call} bad state: {clause}"));
+            }
+            let counts = high_counts(panel);
+            for count in counts.iter().filter(|_| bad_clauses(panel).is_empty()) {
+                self.met.insert(format!("{call} high count: {count}"));
+            }
+        }
+        if ["view", "pixel", "dump"].contains(&call.as_str()) {
+            let (level, scale) = (panel.brightness().level(), panel.brightness().scale());
+            let class = |n: u32| match n {
+                0 => "0",
+                1 => "1",
+                u32::MAX => "most",
+                _ => "other",
+            };
+            let lit = (panel.powered(), panel.sleeping(), panel.display_on());
+            self.met.insert(format!("{call} lit {lit:?}"));
+            if panel.lit() {
+                let same = panel.inverted() == panel.config().invon_shows_ram;
+                self.met.insert(format!("{call} shows memory {same}"));
+                let above = level > scale;
+                let (level, scale) = (class(level), class(scale));
+                self.met
+                    .insert(format!("{call} dims {level} {scale} {above}"));
+            }
+        }
+    }
+
+    /// Counts a line of a script and what it printed; nothing printed is `None` for a bad line.
+    pub fn after(&mut self, words: &[&[u8]], printed: Option<&str>) {
+        let name = text(words[0]);
+        let Some(printed) = printed else {
+            self.bad_lines += 1;
+            let whole: Vec<String> = words.iter().map(|word| text(word)).collect();
+            self.meet(|| format!("bad line {}", whole.join(" ")));
+            return;
+        };
+        if NO_CALLS.contains(&name.as_str()) {
+            let second = words.get(1).map(|word| text(word)).unwrap_or_default();
+            self.meet(|| format!("{name} {second}"));
+            *self.others.entry(name).or_default() += 1;
+            return;
+        }
+        self.call(&name);
+        if let Some(number) = printed.strip_prefix("refused ") {
+            let number = number.trim_end().parse().expect("a refusal's number");
+            self.refused(&name, number);
+            return;
+        }
+        if !self.names {
+            return;
+        }
+        let printed: Vec<&str> = printed.split_whitespace().collect();
+        let detail = match name.as_str() {
+            "reset" | "view" | "power" | "switch" | "fresh" => text(words[1]),
+            "pixel" => format!("{} {}", printed[1], printed[4] == "0000"),
+            "row" => format!("{} {}", printed[1], printed[3] == "empty"),
+            "boot" if printed[1] == "ok" => "ok".to_string(),
+            "boot" => format!("{} {}", printed[1], printed[2] == "none"),
+            "take-warnings" => printed[1].to_string(),
+            _ => String::new(),
+        };
+        // Of a span only its kind counts, and of the flags each one alone.
+        if name == "publish" {
+            let flags = if printed[1] == "none" { 2 } else { 3 };
+            let one_row = flags == 3 && printed[1] == printed[2];
+            self.met.insert(format!("publish {flags} {one_row}"));
+            for (at, flag) in printed[flags..].iter().enumerate() {
+                let set = *flag != "0";
+                self.met.insert(format!("publish flag {at} {set}"));
+            }
+        }
+        self.met.insert(format!("{name} {detail}"));
+    }
+
+    /// Runs the Rust's transfer and counts what it did.
+    pub fn transfer(
+        &mut self,
+        panel: &mut St7789p3,
+        time: u64,
+        dc: bool,
+        bytes: &[u8],
+        release: bool,
+    ) {
+        let run = dc && hidden(panel).in_pixels;
+        let waiting = panel.carry().is_some();
+        let length = bytes.len() + usize::from(waiting);
+        let mut fate = Fates::default();
+        if run {
+            fate = fates(panel, length as u64 / 2);
+            self.pixels.stored += fate.stored;
+            self.pixels.inverted += fate.inverted;
+            self.pixels.unmapped += fate.unmapped;
+            *self.madctl.entry(panel.madctl()).or_default() += fate.stored;
+            self.left_waiting += u64::from(length % 2 == 1);
+            self.found_waiting += u64::from(waiting);
+        }
+        if self.names {
+            self.name_transfer(panel, dc, bytes, release, fate);
+        }
+        let (written, kept) = (panel.pixels_written(), panel.warnings().len());
+        panel.transfer(VTime(time), dc, bytes, release);
+        let counted = panel.pixels_written() - written;
+        assert_eq!(
+            counted,
+            fate.stored + fate.unmapped,
+            "pixels are counted alike"
+        );
+        for at in kept..panel.warnings().len() {
+            let warning = panel.warnings()[at];
+            let rule = RULES.iter().position(|rule| *rule == warning.lint);
+            let rule = rule.expect("one of the three rules");
+            self.warnings[rule] += 1;
+            self.meet(|| format!("rule {} on {:02x}", rule + 1, known(warning.cmd)));
+        }
+    }
+
+    /// What a transfer meets, by the state before it.
+    fn name_transfer(
+        &mut self,
+        panel: &St7789p3,
+        dc: bool,
+        bytes: &[u8],
+        release: bool,
+        fate: Fates,
+    ) {
+        let met = &mut self.met;
+        let inner = hidden(panel);
+        let empty = bytes.is_empty();
+        let turned = panel.madctl() & 0xe0;
+        met.insert(format!(
+            "release {release} {dc} {empty} {}",
+            inner.in_pixels
+        ));
+        if !dc {
+            for c in bytes {
+                let c = known(*c);
+                let full = panel.trace().len() >= TRACE_LIMIT;
+                let warned = panel.warnings().len() >= TRACE_LIMIT;
+                met.insert(format!("begins {c:02x} {full} {warned}"));
+                if [0x01, 0x2c, 0x3c].contains(&c) {
+                    let waiting = panel.carry().is_some();
+                    met.insert(format!("begins {c:02x} {turned:02x} {waiting}"));
+                }
+            }
+        } else if inner.in_pixels {
+            let record = inner.trace_cur.is_some();
+            let odd = bytes.len() % 2 == 1;
+            let waiting = panel.carry().is_some();
+            met.insert(format!("run {record} {odd} {empty} {waiting}"));
+            met.insert(format!("run of {:02x?}", inner.cmd.map(known)));
+            let (xs, xe, ys, ye) = panel.window();
+            let (x, y) = panel.cursor();
+            if fate.inverted > 0 {
+                met.insert(format!("inverted {} {}", xs > xe, ys > ye));
+            }
+            if fate.stored > 0 {
+                met.insert(format!(
+                    "stored {turned:02x} {}",
+                    panel.dirty_rows().is_some()
+                ));
+                let place = (x < xs, x < xe, x == xe, x > xe);
+                met.insert(format!(
+                    "advances {place:?} {:?}",
+                    (y < ys, y < ye, y == ye, y > ye)
+                ));
+            }
+            if fate.unmapped > 0 {
+                met.insert(format!("unmapped {turned:02x} {} {}", x > 239, y > 239));
+            }
+        } else {
+            let length = (inner.params.len() + bytes.len()).min(MAX_PARAMS + 1);
+            let length = if length > 5 && length < MAX_PARAMS {
+                5
+            } else {
+                length
+            };
+            let c = inner.cmd.map(known);
+            let turned = turned & 0x20 != 0;
+            met.insert(format!("data of {c:02x?} {length} {}", inner.applied));
+            met.insert(format!("data of {c:02x?} {turned} {empty}"));
+        }
+    }
+
+    /// Adds what another one counted.
+    pub fn add(&mut self, other: Coverage) {
+        self.logs += other.logs;
+        self.scripts += other.scripts;
+        self.bad_lines += other.bad_lines;
+        self.left_waiting += other.left_waiting;
+        self.found_waiting += other.found_waiting;
+        self.pixels.stored += other.pixels.stored;
+        self.pixels.inverted += other.pixels.inverted;
+        self.pixels.unmapped += other.pixels.unmapped;
+        sum(&mut self.calls, other.calls);
+        sum(&mut self.others, other.others);
+        sum(&mut self.refusals, other.refusals);
+        sum(&mut self.madctl, other.madctl);
+        for (rule, count) in other.warnings.iter().enumerate() {
+            self.warnings[rule] += count;
+        }
+        self.met.extend(other.met);
+    }
+
+    pub fn report(&self) -> String {
+        let mut out = String::new();
+        let cases = self.logs + self.scripts;
+        let calls: u64 = self.calls.values().sum();
+        let refused: u64 = self.refusals.values().sum();
+        line(
+            &mut out,
+            format_args!(
+                "cases {cases}: {} logs, {} scripts",
+                self.logs, self.scripts
+            ),
+        );
+        line(
+            &mut out,
+            format_args!("calls {calls}:{}", list(&self.calls)),
+        );
+        line(
+            &mut out,
+            format_args!(
+                "other lines:{}, bad {}; a dump at the end of every other script",
+                list(&self.others),
+                self.bad_lines
+            ),
+        );
+        line(&mut out, format_args!("refusals {refused}"));
+        for number in 1..=7 {
+            let of: BTreeMap<String, u64> = self
+                .refusals
+                .iter()
+                .filter(|((_, n), _)| *n == number)
+                .map(|((name, _), count)| (name.clone(), *count))
+                .collect();
+            let all: u64 = of.values().sum();
+            line(&mut out, format_args!("  {number}: {all}:{}", list(&of)));
+        }
+        let [first, second, third] = self.warnings;
+        line(
+            &mut out,
+            format_args!("warnings kept: rule 1 {first}, rule 2 {second}, rule 3 {third}"),
+        );
+        let p = self.pixels;
+        line(
+            &mut out,
+            format_args!(
+                "pixels: {} stored, {} dropped by an inverted window, {} unmapped",
+                p.stored, p.inverted, p.unmapped
+            ),
+        );
+        let values = self.madctl.values().filter(|count| **count > 0).count();
+        line(
+            &mut out,
+            format_args!("MADCTL values under which a pixel was stored: {values} of 256"),
+        );
+        line(
+            &mut out,
+            format_args!(
+                "pixel segments that left a byte waiting {}, that found one waiting {}",
+                self.left_waiting, self.found_waiting
+            ),
+        );
+        out
+    }
+}
+
+/// A command with a meaning stands for itself, FF for all others.
+fn known(c: u8) -> u8 {
+    let plain = [0x00, 0x01, 0x10, 0x11, 0x20, 0x21, 0x28, 0x29];
+    let with_data = [0x2a, 0x2b, 0x2c, 0x36, 0x3a, 0x3c, 0xb0];
+    let has = plain.contains(&c) || with_data.contains(&c) || STORED_COMMANDS.contains(&c);
+    if has { c } else { 0xff }
+}
+
+fn sum<K: Ord>(into: &mut BTreeMap<K, u64>, from: BTreeMap<K, u64>) {
+    for (key, count) in from {
+        *into.entry(key).or_default() += count;
+    }
+}
+
+fn list(counts: &BTreeMap<String, u64>) -> String {
+    let items: Vec<String> = counts
+        .iter()
+        .map(|(name, count)| format!(" {name} {count}"))
+        .collect();
+    items.join(",")
+}
+
+fn text(word: &[u8]) -> String {
+    String::from_utf8_lossy(word).into_owned()
+}

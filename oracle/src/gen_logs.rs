@@ -99,7 +99,7 @@ fn at_the_limit(random: &mut Random) -> Vec<u8> {
     let room = length.saturating_sub(log.len() + HEADER).min(65_535);
     let record = Segment {
         time: random.below(1 << 30),
-        dc: !random.one_in(8),
+        dc: !random.one_in(40),
         release: random.one_in(2),
         bytes: random.bytes(room),
     };

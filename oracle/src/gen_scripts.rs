@@ -649,7 +649,6 @@ impl Writer {
             1 => self.line("transfer 0 0 0 2a2c"),
             _ => self.line(format!("transfer 0 0 0 {}", random.pick(&["2c", "3c"]))),
         }
-        let dc = u8::from(!random.one_in(10));
         let name = if random.one_in(6) { "bare" } else { "transfer" };
         let a = random.below(65_536);
         let b = random.below(65_536);
@@ -661,7 +660,13 @@ impl Writer {
             4 => format!("{a:04x}*20000,{b:04x}*12767,ff"),
             _ => format!("{a:04x}*{},{b:04x}", random.below(30_000)),
         };
-        self.line(format!("{name} 0 {dc} 0 {bytes}"));
+        if random.one_in(10) {
+            // As commands: mostly fewer, since each takes far longer than a pixel.
+            let most = if random.one_in(50) { 65_536 } else { 400 };
+            self.line(format!("{name} 0 0 0 {:02x}*{most}", a % 256));
+            self.line(format!("{name} 0 0 0 {:02x}*65537", a % 256));
+        }
+        self.line(format!("{name} 0 1 0 {bytes}"));
         if random.one_in(2) {
             self.line(format!("transfer 0 1 0 {a:04x}*32768"));
             self.line(format!("transfer 0 1 {} {b:04x}*20000", random.below(2)));

@@ -37,6 +37,7 @@ const USAGE: &str = "\
 oracle: runs the unchanged Rust model of the panel
   oracle replay < LOG                what panel-replay prints of a log
   oracle script < SCRIPT             what a script of calls prints
+  oracle unguarded < SCRIPT          the same with no call refused
   oracle gen-logs SEED N DIR         writes N generated logs into the folder DIR
   oracle gen-scripts SEED N DIR      writes N generated scripts into the folder DIR
   oracle compare SEED CASES          compares our programs with the Rust on generated cases
@@ -61,6 +62,12 @@ Runs the script of calls on standard input, one call a line, and prints each cal
 the end the dump, or stops with `bad line N`.
 ";
 
+const UNGUARDED_USAGE: &str = "\
+oracle unguarded < SCRIPT
+Runs a script with no call refused, as the Rust does by itself; it may end in a panic. For showing
+what the Rust does where the table refuses; nothing is compared with it.
+";
+
 const GEN_LOGS_USAGE: &str = "\
 oracle gen-logs SEED N DIR
 Writes N generated logs, 00000.log and so on, into the folder DIR, which is made if it is missing.
@@ -79,6 +86,8 @@ fn main() -> ExitCode {
     let done = match words[..] {
         ["replay"] => filter(REPLAY_USAGE, log::replay),
         ["script"] => filter(SCRIPT_USAGE, script::run),
+        ["unguarded"] => filter(UNGUARDED_USAGE, script::run_unguarded),
+        ["unguarded", ..] => return usage(UNGUARDED_USAGE),
         ["replay", ..] => return usage(REPLAY_USAGE),
         ["script", ..] => return usage(SCRIPT_USAGE),
         ["gen-logs", seed, n, folder] => {

@@ -114,24 +114,31 @@ impl Run {
         seen: &mut Coverage,
     ) -> io::Result<Option<u64>> {
         let mut together = Vec::new();
+        let mut differs = None;
         for number in first..last {
             let case = Case::of(self.seed, number);
             let answer = case.counted(seen);
             if case.kind == Kind::Script && !ends_badly(&answer) {
                 together.push((number, case, answer));
-            } else if programs.answer(&case)? != answer {
-                return Ok(Some(number));
+            } else if differs.is_none() && programs.answer(&case)? != answer {
+                differs = Some(number);
             }
         }
         let scripts: Vec<&Case> = together.iter().map(|(_, case, _)| case).collect();
         let answers: Vec<u8> = together.iter().flat_map(|(.., a)| a.clone()).collect();
         if together.is_empty() || programs.answer(&joined(&scripts))? == answers {
-            return Ok(None);
+            return Ok(differs);
         }
         for (number, case, answer) in &together {
+            if differs.is_some_and(|lower| lower < *number) {
+                break;
+            }
             if programs.answer(case)? != *answer {
                 return Ok(Some(*number));
             }
+        }
+        if differs.is_some() {
+            return Ok(differs);
         }
         let name = format!("{}-together-{first}.script", self.seed);
         fs::write(folder()?.join(&name), joined(&scripts).input)?;

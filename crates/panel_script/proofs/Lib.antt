@@ -1,0 +1,5 @@
+pub mod Alike
+pub mod Lent
+pub mod Pieces
+pub mod Reading
+pub mod Scanning

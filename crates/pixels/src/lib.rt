@@ -47,7 +47,8 @@ fn greater(a: u16, b: u16) -> u16
     if a < b { b } else { a }
 }
 
-fn mark_row(dirty: Span, row: u16) -> Span
+// A span with one more row.
+pub fn mark_row(dirty: Span, row: u16) -> Span
     ensures { λ r. ⌜ r ≡ mark dirty row ⌝ }
 {
     match dirty {
@@ -57,7 +58,7 @@ fn mark_row(dirty: Span, row: u16) -> Span
 }
 
 // The pixel at an index; nothing where memory has no such index.
-fn store_at(memory: &mut [u16], index: usize, pixel: u16)
+pub fn store_at(memory: &mut [u16], index: usize, pixel: u16)
     ensures { λ r. ⌜ now (memory .exit) ≡ set (now (memory .entry)) index pixel ⌝ }
 {
     if index < memory.len() {

@@ -1,4 +1,4 @@
--- Every public operation of status, geometry, pixels, lists, timing, board and chip: its promise, which is its contract, leaves no room.
+-- Every public operation of status, geometry, pixels, engine, lists, timing, board and chip: its promise, which is its contract, leaves no room.
 use mathlib.Core.Path.{refl}
 use Rattle.status.proofs.number as number
 use Rattle.status.proofs.accepted as accepted
@@ -12,11 +12,14 @@ use Rattle.geometry.proofs.place as place
 use Rattle.geometry.proofs.advance as advance
 use Rattle.geometry.proofs.window_bad as window-bad
 use Rattle.geometry.proofs.pointer_bad as pointer-bad
-use Rattle.pixels.proofs.write_pixels as write-pixels
-use Rattle.pixels.proofs.walk_pixels as walk-pixels
+use Rattle.pixels.proofs.mark_row as mark-row
+use Rattle.pixels.proofs.store_at as store-at
+use Rattle.pixels.proofs.write_pixels as write-bytes
 use Rattle.pixels.proofs.all_rows as all-rows
 use Rattle.pixels.proofs.span_bad as span-bad
 use Rattle.pixels.proofs.clear as clear
+use Rattle.engine.proofs.write_pixels as write-pixels
+use Rattle.engine.proofs.walk_pixels as walk-pixels
 use Rattle.lists.proofs.Params.empty as empty
 use Rattle.lists.proofs.Params.append as append
 use Rattle.lists.proofs.Params.differs as differs
@@ -72,6 +75,15 @@ window-bad-one κs args x y u v p q = (same p q, refl)
 
 pub pointer-bad-one : Only pointer-bad.ended pointer-bad.Reads.Learnt
 pointer-bad-one κs args x y u v p q = (same p q, refl)
+
+pub mark-row-one : Only mark-row.ended mark-row.Reads.Learnt
+mark-row-one κs args x y u v p q = (same p q, refl)
+
+pub store-at-one : Only store-at.ended store-at.Reads.Learnt
+store-at-one κs args x y u v p q = (refl, λ i. (same p q i, (tt, (tt, tt))))
+
+pub write-bytes-one : Only write-bytes.ended write-bytes.Reads.Learnt
+write-bytes-one κs args x y u v p q = (same (p .0) (q .0), λ i. (tt, (tt, (tt, (tt, (tt, (same (p .1) (q .1) i, tt)))))))
 
 pub write-pixels-one : Only write-pixels.ended write-pixels.Reads.Learnt
 write-pixels-one κs args x y u v p q = (same (p .0) (q .0), λ i. (tt, (tt, (tt, (tt, (tt, (same (p .1) (q .1) i, tt)))))))

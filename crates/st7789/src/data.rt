@@ -51,7 +51,7 @@ impl Controller {
         let mut chip = self.chip;
         let marks = self.marks;
         let dirty = marks.dirty;
-        let run = pixels::write_pixels(
+        let run = engine::write_pixels(
             chip.window,
             chip.registers.madctl,
             chip.walk,

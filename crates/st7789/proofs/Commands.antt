@@ -1,7 +1,7 @@
 -- A command's begin, and the loop over a segment of commands.
 use Prim.Native.Nat.{ℕ, _+_, _-_, _^_, _≤_, _<_}
 use mathlib.Core.Path.{_≡_, refl, sym, ap, _∙_}
-use mathlib.Core.Bool.{Bool, true, false, cond, _||_, true≢false}
+use mathlib.Core.Bool.{Bool, true, false, cond, _&&_, _||_, true≢false}
 use mathlib.Core.List.{List, [], _∷_, map}
 use native.Mathlib.Numerals.{add-one}
 use native.Mathlib.Omega.{arith}
@@ -59,6 +59,55 @@ none-broken false true z e = absurd (true≢false e)
 none-broken false false true e = absurd (true≢false e)
 none-broken false false false e = refl
 
+-- A full list keeps nothing.
+full-kept : (f : Fixed Warning) (xs : List Warning) → ltb (f .count) 128 ≡ false → pushAll 128 f xs ≡ f
+full-kept f [] e = refl
+full-kept f (x ∷ xs) e =
+    ap (λ g. pushAll 128 g xs) (ap (λ b. cond b (record { count = f .count + 1; places = set (f .places) (f .count) x }) f) e)
+    ∙ full-kept f xs e
+
+nothing-kept :
+    (f : Fixed Warning) (w : ℕ → Warning) (b : Broken) → ltb (f .count) 128 && (b .rule1 || (b .rule2 || b .rule3)) ≡ false →
+    pushAll 128 f (map w (rulesOf b)) ≡ f
+nothing-kept f w b e = by-test (ltb (f .count) 128) refl e
+  where
+    by-test : (x : Bool) → ltb (f .count) 128 ≡ x → x && (b .rule1 || (b .rule2 || b .rule3)) ≡ false → pushAll 128 f (map w (rulesOf b)) ≡ f
+    by-test true ex h = ap (λ l. pushAll 128 f (map w l)) (none-broken (b .rule1) (b .rule2) (b .rule3) h)
+    by-test false ex h = full-kept f (map w (rulesOf b)) ex
+
+-- What stands past the end of the warnings' places.
+abbrev noWarning : Warning
+noWarning = record { at = 0; rule = 0; cmd = 0 }
+
+-- A warning is stored where its rule is broken and there is room, what stood there where not.
+warned-put :
+    (a : Bool) (x : Warning) (n : ℕ) (l : List Warning) {at m : ℕ} {w : Warning} → at ≡ slotOf n →
+    w ≡ cond (a && ltb n 128) x (getD l at noWarning) → m ≡ cond (a && ltb n 128) (n + 1) n →
+    _≡_ {A = Fixed Warning} (record { count = m; places = set l at w }) (pushAll 128 (record { count = n; places = l }) (cond a (x ∷ []) []))
+warned-put a x n l ea ew em = rw (em, ew, ea) (go a (ltb n 128) ∙ as-push a)
+  where
+    go :
+        (a b : Bool) →
+        _≡_ {A = Fixed Warning}
+        (record { count = cond (a && b) (n + 1) n; places = set l (cond b n 0) (cond (a && b) x (getD l (cond b n 0) noWarning)) })
+        (cond a (cond b (record { count = n + 1; places = set l n x }) (record { count = n; places = l })) (record { count = n; places = l }))
+    go true true = refl
+    go true false = ap (λ l. record { count = n; places = l }) (set-getD l 0 noWarning)
+    go false true = ap (λ l. record { count = n; places = l }) (set-getD l n noWarning)
+    go false false = ap (λ l. record { count = n; places = l }) (set-getD l 0 noWarning)
+
+    as-push :
+        (a : Bool) →
+        _≡_ {A = Fixed Warning}
+        (cond a (cond (ltb n 128) (record { count = n + 1; places = set l n x }) (record { count = n; places = l })) (record { count = n; places = l }))
+        (pushAll 128 (record { count = n; places = l }) (cond a (x ∷ []) []))
+    as-push true = refl
+    as-push false = refl
+
+-- The controller with the parts that a segment of commands keeps in locals.
+abbrev pub put : Controller → Chip → Counts → Logs → Controller
+put s chip counts logs = whole (s .cfg) (s .power) chip counts (s .marks .dirty) logs (s .stored) (s .records) (s .warnings)
+
 -- The controller after a turn, before the warnings.
 abbrev turned : Controller → Chip → Counts → Logs → ℕ → TraceRecord → Controller
 turned s chip counts logs at r =
@@ -85,23 +134,30 @@ module _
         (record { traced = k; warned = w .count; current = cond (ltb n 128) (At n) Nothing })
         (s .stored) l (w .places)))
 
-    pub quiet-turn : b .rule1 || (b .rule2 || b .rule3) ≡ false → turned s chip counts logs at r ≡ begun c t s
+    pub quiet-turn : ltb (logs .warned) 128 && (b .rule1 || (b .rule2 || b .rule3)) ≡ false → turned s chip counts logs at r ≡ begun c t s
     quiet-turn e =
-        ap (λ l. withWarnings (pushAll 128 (warningsOf (turned s chip counts logs at r)) (map (warning c t) l)) (turned s chip counts logs at r))
-        (sym (none-broken (b .rule1) (b .rule2) (b .rule3) e))
+        ap (λ f. withWarnings f (turned s chip counts logs at r))
+        (sym (nothing-kept (warningsOf (turned s chip counts logs at r)) (warning c t) b e))
         ∙ late
 
     pub loud-turn :
-        {one two three : Controller} →
-        one ≡
-        withWarnings (pushAll 128 (warningsOf (turned s chip counts logs at r)) (cond (b .rule1) (warning c t 1 ∷ []) [])) (turned s chip counts logs at r) →
-        two ≡ withWarnings (pushAll 128 (warningsOf one) (cond (b .rule2) (warning c t 2 ∷ []) [])) one →
-        three ≡ withWarnings (pushAll 128 (warningsOf two) (cond (b .rule3) (warning c t 3 ∷ []) [])) two → three ≡ begun c t s
-    loud-turn {one} {two} {three} e1 e2 e3 =
-        e3
-        ∙ ap (λ s. withWarnings (pushAll 128 (warningsOf s) (cond (b .rule3) (warning c t 3 ∷ []) [])) s)
-        (e2 ∙ ap (λ s. withWarnings (pushAll 128 (warningsOf s) (cond (b .rule2) (warning c t 2 ∷ []) [])) s) e1)
-        ∙ ap (λ f. withWarnings f (turned s chip counts logs at r)) (rules-in-turn (warningsOf (turned s chip counts logs at r)) (warning c t) b)
+        {at₁ at₂ at₃ n₂ n₃ n₄ : ℕ} {w₁ w₂ w₃ : Warning} → at₁ ≡ slotOf (logs .warned) →
+        w₁ ≡ cond (b .rule1 && ltb (logs .warned) 128) (warning c t 1) (getD (s .warnings) at₁ noWarning) →
+        n₂ ≡ cond (b .rule1 && ltb (logs .warned) 128) (logs .warned + 1) (logs .warned) → at₂ ≡ slotOf n₂ →
+        w₂ ≡ cond (b .rule2 && ltb n₂ 128) (warning c t 2) (getD (set (s .warnings) at₁ w₁) at₂ noWarning) →
+        n₃ ≡ cond (b .rule2 && ltb n₂ 128) (n₂ + 1) n₂ → at₃ ≡ slotOf n₃ →
+        w₃ ≡ cond (b .rule3 && ltb n₃ 128) (warning c t 3) (getD (set (set (s .warnings) at₁ w₁) at₂ w₂) at₃ noWarning) →
+        n₄ ≡ cond (b .rule3 && ltb n₃ 128) (n₃ + 1) n₃ →
+        withWarnings (record { count = n₄; places = set (set (set (s .warnings) at₁ w₁) at₂ w₂) at₃ w₃ }) (turned s chip counts logs at r) ≡
+        begun c t s
+    loud-turn {at₁} {at₂} {at₃} {n₂} {n₃} {n₄} {w₁} {w₂} {w₃} ea₁ ew₁ en₂ ea₂ ew₂ en₃ ea₃ ew₃ en₄ =
+        ap (λ f. withWarnings f (turned s chip counts logs at r))
+        (warned-put (b .rule3) (warning c t 3) n₃ (set (set (s .warnings) at₁ w₁) at₂ w₂) ea₃ ew₃ en₄
+        ∙ ap (λ f. pushAll 128 f (cond (b .rule3) (warning c t 3 ∷ []) []))
+        (warned-put (b .rule2) (warning c t 2) n₂ (set (s .warnings) at₁ w₁) ea₂ ew₂ en₃
+        ∙ ap (λ f. pushAll 128 f (cond (b .rule2) (warning c t 2 ∷ []) []))
+        (warned-put (b .rule1) (warning c t 1) (logs .warned) (s .warnings) ea₁ ew₁ en₂))
+        ∙ rules-in-turn (warningsOf (turned s chip counts logs at r)) (warning c t) b)
         ∙ late
 
 -- The loop: what is left to begin from byte i on is what was to begin from the first.

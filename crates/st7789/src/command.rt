@@ -1,12 +1,9 @@
 // Beginning commands, and the CS release.
 ghost use mathlib.Core.Path.{_≡_};
-ghost use mathlib.Core.Bool.{cond};
-ghost use mathlib.Core.List.{[], _∷_};
+ghost use mathlib.Core.Bool.{cond, _&&_, _||_};
 ghost use Prim.Native.Nat.{_+_, _^_, _<_};
 ghost use lib.Dec.{ltb};
 ghost use lib.ListN.{length};
-ghost use Rattle.lists.specs.Fixed.{pushAll};
-ghost use Rattle.st7789.specs.Parts.{warningsOf, withWarnings};
 ghost use Rattle.st7789.specs.Command.{warning, countsBegun, begunRecord, begunAll, released};
 ghost use Rattle.st7789.specs.Places.{logsBegun};
 ghost use Rattle.st7789.specs.Room.{Room};
@@ -14,11 +11,11 @@ use crate::Controller;
 use crate::Counts;
 use crate::Logs;
 use crate::current::slot;
-use crate::wide;
 use lists::Current;
 use lists::Params;
 use lists::TraceRecord;
 use lists::Warning;
+use timing::Broken;
 
 impl Counts {
     fn begin(mut self, c: u8) -> Counts
@@ -69,54 +66,80 @@ fn begun_record(traced: u8, c: u8, t: u64, old: TraceRecord) -> TraceRecord
     old
 }
 
-impl Controller {
-    // One warning, if its rule is broken and there is room.
-    fn warn(mut self, broken: bool, rule: u8, c: u8, t: u64) -> Controller
-        ensures { λ r. ⌜ r ≡ withWarnings (pushAll 128 (warningsOf self) (cond broken (warning c t rule ∷ []) [])) self ⌝ }
-    {
-        let n = self.logs.warned;
-        if broken {
-            if n < 128 {
-                let at = wide(n);
-                self.warnings[at] = Warning {
-                    at: t,
-                    rule,
-                    cmd: c,
-                };
-                self.logs.warned = n + 1;
-                return self;
-            }
-        }
-        self
-    }
+// Whether there is a warning to keep, and room for one.
+fn loud(broken: Broken, warned: u8) -> bool
+    ensures { λ r. ⌜ r ≡ (ltb warned 128 && (broken .rule1 || (broken .rule2 || broken .rule3))) ⌝ }
+{
+    (warned < 128) & (broken.rule1 | (broken.rule2 | broken.rule3))
+}
 
-    // Each byte begins a command.
-    pub(crate) fn begin_commands(self, t: u64, bytes: &[u8]) -> Controller
+// The warning of a broken rule, or what stands at its place where the rule is kept or there is no room.
+fn warning_at(broken: bool, n: u8, rule: u8, c: u8, t: u64, old: Warning) -> Warning
+    ensures { λ r. ⌜ r ≡ cond (broken && ltb n 128) (warning c t rule) old ⌝ }
+{
+    if broken {
+        if n < 128 {
+            return Warning {
+                at: t,
+                rule,
+                cmd: c,
+            };
+        }
+    }
+    old
+}
+
+fn one_more(broken: bool, n: u8) -> u8
+    ensures { λ r. ⌜ r ≡ cond (broken && ltb n 128) (n + 1) n ⌝ }
+{
+    if broken {
+        if n < 128 {
+            return n + 1;
+        }
+    }
+    n
+}
+
+impl Controller {
+    // Each byte begins a command. The small parts stay in locals, and the lists are stored to in place.
+    pub(crate) fn begin_commands(mut self, t: u64, bytes: &[u8]) -> Controller
         requires { ⌜ Room (length (now bytes)) self ⌝ }
         ensures { λ r. ⌜ r ≡ begunAll t (now (bytes .entry)) self ⌝ }
     {
-        let mut s = self;
+        let mut chip = self.chip;
+        let mut counts = self.counts;
+        let mut logs = self.logs;
         let mut i = 0;
         while i < bytes.len() {
             let c = bytes[i];
             i += 1;
-            let broken = timing::lint(s.chip.times, s.chip.registers.colmod, c, t);
-            let at = slot(s.logs.traced);
-            let record = begun_record(s.logs.traced, c, t, s.records[at]);
-            let chip = s.chip.begin(c, t);
-            let counts = s.counts.begin(c);
-            let logs = s.logs.begin();
-            s.chip = chip;
-            s.counts = counts;
-            s.logs = logs;
-            s.records[at] = record;
-            if broken.rule1 | (broken.rule2 | broken.rule3) {
-                let one = s.warn(broken.rule1, 1, c, t);
-                let two = one.warn(broken.rule2, 2, c, t);
-                s = two.warn(broken.rule3, 3, c, t);
+            let broken = timing::lint(chip.times, chip.registers.colmod, c, t);
+            let at = slot(logs.traced);
+            let record = begun_record(logs.traced, c, t, self.records[at]);
+            self.records[at] = record;
+            chip = chip.begin(c, t);
+            counts = counts.begin(c);
+            logs = logs.begin();
+            if loud(broken, logs.warned) {
+                let n1 = logs.warned;
+                let at1 = slot(n1);
+                let w1 = warning_at(broken.rule1, n1, 1, c, t, self.warnings[at1]);
+                self.warnings[at1] = w1;
+                let n2 = one_more(broken.rule1, n1);
+                let at2 = slot(n2);
+                let w2 = warning_at(broken.rule2, n2, 2, c, t, self.warnings[at2]);
+                self.warnings[at2] = w2;
+                let n3 = one_more(broken.rule2, n2);
+                let at3 = slot(n3);
+                let w3 = warning_at(broken.rule3, n3, 3, c, t, self.warnings[at3]);
+                self.warnings[at3] = w3;
+                logs.warned = one_more(broken.rule3, n3);
             }
         }
-        s
+        self.chip = chip;
+        self.counts = counts;
+        self.logs = logs;
+        self
     }
 
     // CS goes high, if asked: nothing is in force, no record is current, and the pointer stays.

@@ -1,18 +1,20 @@
 -- A whole view and one pixel of it: the loop that fills a buffer, and what a view holds at each index.
-use Prim.Native.Nat.{ℕ, zero, suc, _+_, _*_, _≤_, _<_}
+use Prim.Native.Nat.{ℕ, zero, suc, _+_, _-_, _*_, _/_, _^_, _≤_, _<_, min}
 use mathlib.Core.Path.{_≡_, refl, sym, ap, _∙_}
 use mathlib.Core.Bool.{Bool, true, false, cond, _&&_}
 use mathlib.Core.List.{List, [], _∷_, map}
-use native.Mathlib.Nat.{not-suc-le-zero, le-of-suc-le-suc}
+use native.Mathlib.Nat.{not-suc-le-zero, le-of-suc-le-suc, zero-mul, div-le-self}
 use native.Mathlib.Omega.{arith}
 use borrow.Author.Tests.{eqb-true, eqb-false, eq-eqb, ne-eqb, lt-ltb, le-ltb}
 use lib.Dec.{eqb, ltb}
-use lib.ListN.{length, getD, set, length-set, length-map}
+use lib.ListN.{length, getD, set, replicate, length-set, length-map}
 use lib.Seq.{getD-set-same, getD-set-other, ext-getD}
 use Rattle.st7789.specs.declared.Controller.{Controller}
-use Rattle.views.specs.Light.{lightOf, viewed}
+use Rattle.pixels.specs.Spans.{zeroed}
+use Rattle.views.specs.Light.{scaled, joined, dimmed, lightOf, glassOf, viewed}
 use Rattle.views.specs.Views.{pixelSeen, frameRefusal, frameSeen}
 use Rattle.views.specs.declared.FrameView.{FrameView}
+use Rattle.views.specs.declared.FrameView.the-variants.{Raw, Glass, Perceived}
 use Rattle.views.specs.declared.Light.{Light}
 
 pub at-index : (f : ℕ → ℕ) (l : List ℕ) (k : ℕ) → k < length l → getD (map f l) k 0 ≡ f (getD l k 0)
@@ -99,3 +101,63 @@ module _ (view : FrameView) (s : Controller) (memory buffer : List ℕ) where
     rw (eq-eqb (length memory) 76800 m, eq-eqb (length buffer) 76800 b),
     rw (eq-eqb (length memory) 76800 m, eq-eqb (length buffer) 76800 b, ← el) eo,
   )
+
+-- A view is picked once: what each case fills the buffer with is the view.
+map-same : (f g : ℕ → ℕ) → ((v : ℕ) → f v ≡ g v) → (l : List ℕ) → map f l ≡ map g l
+map-same f g e [] = refl
+map-same f g e (v ∷ l) = rw (e v, map-same f g e l)
+
+all-zero : (f : ℕ → ℕ) → ((v : ℕ) → f v ≡ 0) → (l : List ℕ) → replicate (length l) 0 ≡ map f l
+all-zero f e [] = refl
+all-zero f e (v ∷ l) = rw (e v, all-zero f e l)
+
+scaled-black : (level scale : ℕ) → scaled 0 level scale ≡ 0
+scaled-black level scale = go (eqb scale 0)
+  where
+    go : (b : Bool) → cond b 0 (min (0 * level / scale) (2 ^ 32 - 1)) ≡ 0
+    go true = refl
+    go false = omega (arith, zero-mul level, div-le-self (0 * level) scale)
+
+dimmed-black : (level scale : ℕ) → dimmed 0 level scale ≡ 0
+unfolding dimmed
+dimmed-black level scale = go (eqb level 0)
+  where
+    go : (b : Bool) → cond b 0 (joined (scaled 0 level scale) (scaled 0 level scale) (scaled 0 level scale)) ≡ 0
+    go true = refl
+    go false = rw (scaled-black level scale)
+
+module _ (light : Light) (memory out : List ℕ) where
+  pub glass-plain : light .lit ≡ true → light .plain ≡ true → out ≡ map (λ v. v) memory → out ≡ map (glassOf light) memory
+  glass-plain e f h = h ∙ map-same (λ v. v) (glassOf light) (λ v. simp (e, f)) memory
+
+  pub glass-complement : light .lit ≡ true → light .plain ≡ false → out ≡ map (λ v. 65535 - v) memory → out ≡ map (glassOf light) memory
+  glass-complement e f h = h ∙ map-same (λ v. 65535 - v) (glassOf light) (λ v. simp (e, f)) memory
+
+  pub glass-black : (buffer : List ℕ) → light .lit ≡ false → length buffer ≡ length memory → out ≡ zeroed buffer → out ≡ map (glassOf light) memory
+  glass-black buffer e l h = h ∙ ap (λ n. replicate n 0) l ∙ all-zero (glassOf light) (λ v. simp e) memory
+
+  pub perceived-plain :
+      light .lit ≡ true → light .plain ≡ true → out ≡ map (λ v. dimmed v (light .level) (light .scale)) memory → out ≡ map (viewed Perceived light) memory
+  unfolding viewed
+  perceived-plain e f h = h ∙ map-same (λ v. dimmed v (light .level) (light .scale)) (viewed Perceived light) (λ v. simp (e, f)) memory
+
+  pub perceived-complement :
+      light .lit ≡ true → light .plain ≡ false → out ≡ map (λ v. dimmed (65535 - v) (light .level) (light .scale)) memory → out ≡ map (viewed Perceived light) memory
+  unfolding viewed
+  perceived-complement e f h = h ∙ map-same (λ v. dimmed (65535 - v) (light .level) (light .scale)) (viewed Perceived light) (λ v. simp (e, f)) memory
+
+  pub perceived-black : (buffer : List ℕ) → light .lit ≡ false → length buffer ≡ length memory → out ≡ zeroed buffer → out ≡ map (viewed Perceived light) memory
+  unfolding viewed
+  perceived-black buffer e l h =
+      h ∙ ap (λ n. replicate n 0) l ∙ all-zero (viewed Perceived light) (λ v. simp (e, dimmed-black (light .level) (light .scale))) memory
+
+  pub as-raw : (view : FrameView) → view ≡ Raw → out ≡ map (λ v. v) memory → out ≡ map (viewed view light) memory
+  unfolding viewed
+  as-raw view e h = rw e h
+
+  pub as-glass : (view : FrameView) → view ≡ Glass → out ≡ map (glassOf light) memory → out ≡ map (viewed view light) memory
+  unfolding viewed
+  as-glass view e h = rw e h
+
+  pub as-perceived : (view : FrameView) → view ≡ Perceived → out ≡ map (viewed Perceived light) memory → out ≡ map (viewed view light) memory
+  as-perceived view e h = rw e h

@@ -6,6 +6,7 @@ ghost use Prim.Native.Nat.{_-_, _*_, _/_, _%_, _^_, _≤_, _<_};
 ghost use lib.ListN.{length};
 ghost use Rattle.status.specs.Tests.{memoryRefusal};
 ghost use Rattle.status.specs.Numbers.{number};
+ghost use Rattle.views.specs.declared.FrameView.the-variants.{Perceived};
 ghost use Rattle.views.specs.Light.{scaled, dimmed, lightOf, glassOf, viewed};
 ghost use Rattle.views.specs.Views.{pixelSeen, frameRefusal, frameSeen, rowSeen};
 use st7789::Controller;
@@ -109,6 +110,12 @@ fn light_of(controller: Controller) -> Light
     }
 }
 
+fn complement(raw: u16) -> u16
+    ensures { λ r. ⌜ r ≡ 65535 - raw ⌝ }
+{
+    65535 - raw
+}
+
 // The glass: black unless lit, otherwise memory or its complement.
 fn glass_pixel(light: Light, raw: u16) -> u16
     ensures { λ r. ⌜ r ≡ glassOf light raw ⌝ }
@@ -117,7 +124,7 @@ fn glass_pixel(light: Light, raw: u16) -> u16
         if light.plain {
             return raw;
         }
-        return 65535 - raw;
+        return complement(raw);
     }
     0
 }
@@ -160,14 +167,90 @@ pub fn pixel(controller: Controller, view: FrameView, x: u16, y: u16, memory: &[
     }
 }
 
+// A whole buffer from memory: one loop for each case that a view can be.
+fn copy_all(memory: &[u16], buffer: &mut [u16])
+    requires { ⌜ length (now buffer) ≡ length (now memory) ⌝ }
+    ensures { λ r. ⌜ now (buffer .exit) ≡ map (λ v. v) (now (memory .entry)) ⌝ }
+{
+    let mut i = 0;
+    while i < memory.len() {
+        buffer[i] = memory[i];
+        i += 1;
+    }
+}
+
+fn complement_all(memory: &[u16], buffer: &mut [u16])
+    requires { ⌜ length (now buffer) ≡ length (now memory) ⌝ }
+    ensures { λ r. ⌜ now (buffer .exit) ≡ map (λ v. 65535 - v) (now (memory .entry)) ⌝ }
+{
+    let mut i = 0;
+    while i < memory.len() {
+        buffer[i] = complement(memory[i]);
+        i += 1;
+    }
+}
+
+fn dim_all(level: u32, scale: u32, memory: &[u16], buffer: &mut [u16])
+    requires { ⌜ length (now buffer) ≡ length (now memory) ⌝ }
+    ensures { λ r. ⌜ now (buffer .exit) ≡ map (λ v. dimmed v level scale) (now (memory .entry)) ⌝ }
+{
+    let mut i = 0;
+    while i < memory.len() {
+        buffer[i] = dim(memory[i], level, scale);
+        i += 1;
+    }
+}
+
+fn dim_complement_all(level: u32, scale: u32, memory: &[u16], buffer: &mut [u16])
+    requires { ⌜ length (now buffer) ≡ length (now memory) ⌝ }
+    ensures { λ r. ⌜ now (buffer .exit) ≡ map (λ v. dimmed (65535 - v) level scale) (now (memory .entry)) ⌝ }
+{
+    let mut i = 0;
+    while i < memory.len() {
+        buffer[i] = dim(complement(memory[i]), level, scale);
+        i += 1;
+    }
+}
+
+fn glass_all(light: Light, memory: &[u16], buffer: &mut [u16])
+    requires { ⌜ length (now buffer) ≡ length (now memory) ⌝ }
+    ensures { λ r. ⌜ now (buffer .exit) ≡ map (glassOf light) (now (memory .entry)) ⌝ }
+{
+    if light.lit {
+        if light.plain {
+            copy_all(memory, buffer);
+            return;
+        }
+        complement_all(memory, buffer);
+        return;
+    }
+    pixels::clear(buffer);
+}
+
+fn perceived_all(light: Light, memory: &[u16], buffer: &mut [u16])
+    requires { ⌜ length (now buffer) ≡ length (now memory) ⌝ }
+    ensures { λ r. ⌜ now (buffer .exit) ≡ map (viewed Perceived light) (now (memory .entry)) ⌝ }
+{
+    if light.lit {
+        if light.plain {
+            dim_all(light.level, light.scale, memory, buffer);
+            return;
+        }
+        dim_complement_all(light.level, light.scale, memory, buffer);
+        return;
+    }
+    pixels::clear(buffer);
+}
+
+// The view is picked once, and not for each pixel.
 fn fill(view: FrameView, light: Light, memory: &[u16], buffer: &mut [u16])
     requires { ⌜ length (now buffer) ≡ length (now memory) ⌝ }
     ensures { λ r. ⌜ now (buffer .exit) ≡ map (viewed view light) (now (memory .entry)) ⌝ }
 {
-    let mut i = 0;
-    while i < memory.len() {
-        buffer[i] = view_pixel(view, light, memory[i]);
-        i += 1;
+    match view {
+        FrameView::Raw => copy_all(memory, buffer),
+        FrameView::Glass => glass_all(light, memory, buffer),
+        FrameView::Perceived => perceived_all(light, memory, buffer),
     }
 }
 

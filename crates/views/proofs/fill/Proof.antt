@@ -1,66 +1,57 @@
-use mathlib.Core.Path.{sym, _∙_}
-use Prim.Native.Nat.{_-_}
-use lib.ListN.{length}
-use native.Mathlib.Omega.{arith}
+use Rattle.views.proofs.Filling.{as-raw, as-glass, as-perceived}
 use borrow.Author.Needs.{needs}
-use Rattle.views.specs.Light.{viewed}
-use Rattle.views.proofs.Filling.{Filled, filled-first, filled-next, filled-last}
 use Rattle.views.proofs.fill.Statement.{statement}
 use Rattle.views.proofs.fill.Tie as tie
 
-abbrev Inv-loop : tie.InvT-loop
-Inv-loop view light memory buffer₀ i₀ buffer i = Filled (viewed view light) memory buffer i
+enum-told : tie.Need-enum-told
+enum-told c = search needs
 
-abbrev μ-loop : tie.MeasureT-loop
-μ-loop view light memory buffer₀ i₀ buffer i = length memory - i
+copy-all-requires : tie.Need-copy-all-requires
+copy-all-requires c κs = search needs
 
-loop-holds : tie.Need-loop-holds Inv-loop μ-loop
-loop-holds c = filled-first (c .before .before .pre)
+enum-told-2 : tie.Need-enum-told-2
+enum-told-2 c = search needs
 
-mul-view-pixel : tie.Need-mul-view-pixel Inv-loop μ-loop
-mul-view-pixel c = search needs
+glass-all-requires : tie.Need-glass-all-requires
+glass-all-requires c κs = search needs
 
-shared-slice-read-view-pixel : tie.Need-shared-slice-read-view-pixel Inv-loop μ-loop
-shared-slice-read-view-pixel c = search needs
+enum-told-3 : tie.Need-enum-told-3
+enum-told-3 c = search needs
 
-view-pixel-requires : tie.Need-view-pixel-requires Inv-loop μ-loop
-view-pixel-requires c κs = search needs
+perceived-all-requires : tie.Need-perceived-all-requires
+perceived-all-requires c κs = search needs
 
-mul-buffer : tie.Need-mul-buffer Inv-loop μ-loop
-mul-buffer c = omega (arith, c .before .before .before .loop .inv .long, c .before .before .loop-test .taken)
+same-length : tie.Need-same-length
+same-length c = search needs
 
-slice-write-buffer : tie.Need-slice-write-buffer Inv-loop μ-loop
-slice-write-buffer c = omega (arith, c .before .before .before .loop .inv .long, c .before .before .loop-test .taken)
+returns : tie.Need-returns
+returns c = search (needs, as-raw)
 
-add-i : tie.Need-add-i Inv-loop μ-loop
-add-i c = search needs
+same-length-2 : tie.Need-same-length-2
+same-length-2 c = search needs
 
-loop-less : tie.Need-loop-less Inv-loop μ-loop
-loop-less c = search needs
+returns-2 : tie.Need-returns-2
+returns-2 c = search (needs, as-glass)
 
-loop-again : tie.Need-loop-again Inv-loop μ-loop
-loop-again c = filled-next (c .before .before .before .loop .inv) (c .before .before .loop-test .taken) (c .view-pixel .ensures)
+same-length-3 : tie.Need-same-length-3
+same-length-3 c = search needs
 
-same-length : tie.Need-same-length Inv-loop μ-loop
-same-length c = c .before .loop .inv .long ∙ sym (c .before .before .before .before .pre)
-
-returns : tie.Need-returns Inv-loop μ-loop
-returns c = filled-last (c .before .loop .inv) (c .loop-test .left)
+returns-3 : tie.Need-returns-3
+returns-3 c = search (needs, as-perceived)
 
 pub fill-spec : {M : Type 1} → statement M
 fill-spec =
     tie.close
     (tie.spec
-    Inv-loop
-    μ-loop
-    loop-holds
-    mul-view-pixel
-    shared-slice-read-view-pixel
-    view-pixel-requires
-    mul-buffer
-    slice-write-buffer
-    add-i
-    loop-less
-    loop-again
+    enum-told
+    copy-all-requires
+    enum-told-2
+    glass-all-requires
+    enum-told-3
+    perceived-all-requires
     same-length
-    returns)
+    returns
+    same-length-2
+    returns-2
+    same-length-3
+    returns-3)

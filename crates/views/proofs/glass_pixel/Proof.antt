@@ -5,14 +5,14 @@ use Rattle.views.proofs.glass_pixel.Tie as tie
 returns : tie.Need-returns
 returns c = search needs
 
-sub-result : tie.Need-sub-result
-sub-result c = search needs
+complement-requires : tie.Need-complement-requires
+complement-requires c κs = search needs
 
 returns-2 : tie.Need-returns-2
-returns-2 c = simp (c .before .if1 .taken, c .if2 .left)
+returns-2 c = simp (c .before .before .if1 .taken, c .before .if2 .left) (c .complement .ensures)
 
 returns-3 : tie.Need-returns-3
 returns-3 c = search needs
 
 pub glass-pixel-spec : {M : Type 1} → statement M
-glass-pixel-spec = tie.close (tie.spec returns sub-result returns-2 returns-3)
+glass-pixel-spec = tie.close (tie.spec returns complement-requires returns-2 returns-3)

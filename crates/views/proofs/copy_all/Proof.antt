@@ -1,0 +1,61 @@
+use mathlib.Core.Path.{refl, sym, _∙_}
+use Prim.Native.Nat.{_-_}
+use lib.ListN.{length}
+use native.Mathlib.Omega.{arith}
+use Rattle.views.proofs.Filling.{Filled, filled-first, filled-next, filled-last}
+use borrow.Author.Needs.{needs}
+use Rattle.views.proofs.copy_all.Statement.{statement}
+use Rattle.views.proofs.copy_all.Tie as tie
+
+abbrev Inv-loop : tie.InvT-loop
+Inv-loop memory buffer₀ i₀ buffer i = Filled (λ v. v) memory buffer i
+
+abbrev μ-loop : tie.MeasureT-loop
+μ-loop memory buffer₀ i₀ buffer i = length memory - i
+
+loop-holds : tie.Need-loop-holds Inv-loop μ-loop
+loop-holds c = filled-first (c .pre)
+
+mul-buffer : tie.Need-mul-buffer Inv-loop μ-loop
+mul-buffer c = search needs
+
+shared-slice-read-buffer : tie.Need-shared-slice-read-buffer Inv-loop μ-loop
+shared-slice-read-buffer c = search needs
+
+mul-buffer-2 : tie.Need-mul-buffer-2 Inv-loop μ-loop
+mul-buffer-2 c = omega (arith, c .before .before .loop .inv .long, c .before .loop-test .taken)
+
+slice-write-buffer : tie.Need-slice-write-buffer Inv-loop μ-loop
+slice-write-buffer c = omega (arith, c .before .before .loop .inv .long, c .before .loop-test .taken)
+
+add-i : tie.Need-add-i Inv-loop μ-loop
+add-i c = search needs
+
+loop-less : tie.Need-loop-less Inv-loop μ-loop
+loop-less c = search needs
+
+loop-again : tie.Need-loop-again Inv-loop μ-loop
+loop-again c = filled-next (c .before .before .loop .inv) (c .before .loop-test .taken) (refl)
+
+same-length : tie.Need-same-length Inv-loop μ-loop
+same-length c = c .before .loop .inv .long ∙ sym (c .before .before .pre)
+
+returns : tie.Need-returns Inv-loop μ-loop
+returns c = filled-last (c .before .loop .inv) (c .loop-test .left)
+
+pub copy-all-spec : {M : Type 1} → statement M
+copy-all-spec =
+    tie.close
+    (tie.spec
+    Inv-loop
+    μ-loop
+    loop-holds
+    mul-buffer
+    shared-slice-read-buffer
+    mul-buffer-2
+    slice-write-buffer
+    add-i
+    loop-less
+    loop-again
+    same-length
+    returns)

@@ -1,0 +1,66 @@
+use mathlib.Core.Path.{sym, _∙_}
+use Prim.Native.Nat.{_-_}
+use lib.ListN.{length}
+use native.Mathlib.Omega.{arith}
+use Rattle.views.proofs.Filling.{Filled, filled-first, filled-next, filled-last}
+use Rattle.views.specs.Light.{dimmed}
+use borrow.Author.Needs.{needs}
+use Rattle.views.proofs.dim_all.Statement.{statement}
+use Rattle.views.proofs.dim_all.Tie as tie
+
+abbrev Inv-loop : tie.InvT-loop
+Inv-loop level scale memory buffer₀ i₀ buffer i = Filled (λ v. dimmed v level scale) memory buffer i
+
+abbrev μ-loop : tie.MeasureT-loop
+μ-loop level scale memory buffer₀ i₀ buffer i = length memory - i
+
+loop-holds : tie.Need-loop-holds Inv-loop μ-loop
+loop-holds c = filled-first (c .before .before .pre)
+
+mul-dim : tie.Need-mul-dim Inv-loop μ-loop
+mul-dim c = search needs
+
+shared-slice-read-dim : tie.Need-shared-slice-read-dim Inv-loop μ-loop
+shared-slice-read-dim c = search needs
+
+dim-requires : tie.Need-dim-requires Inv-loop μ-loop
+dim-requires c κs = search needs
+
+mul-buffer : tie.Need-mul-buffer Inv-loop μ-loop
+mul-buffer c = omega (arith, c .before .before .before .loop .inv .long, c .before .before .loop-test .taken)
+
+slice-write-buffer : tie.Need-slice-write-buffer Inv-loop μ-loop
+slice-write-buffer c = omega (arith, c .before .before .before .loop .inv .long, c .before .before .loop-test .taken)
+
+add-i : tie.Need-add-i Inv-loop μ-loop
+add-i c = search needs
+
+loop-less : tie.Need-loop-less Inv-loop μ-loop
+loop-less c = search needs
+
+loop-again : tie.Need-loop-again Inv-loop μ-loop
+loop-again c = filled-next (c .before .before .before .loop .inv) (c .before .before .loop-test .taken) (c .dim .ensures)
+
+same-length : tie.Need-same-length Inv-loop μ-loop
+same-length c = c .before .loop .inv .long ∙ sym (c .before .before .before .before .pre)
+
+returns : tie.Need-returns Inv-loop μ-loop
+returns c = filled-last (c .before .loop .inv) (c .loop-test .left)
+
+pub dim-all-spec : {M : Type 1} → statement M
+dim-all-spec =
+    tie.close
+    (tie.spec
+    Inv-loop
+    μ-loop
+    loop-holds
+    mul-dim
+    shared-slice-read-dim
+    dim-requires
+    mul-buffer
+    slice-write-buffer
+    add-i
+    loop-less
+    loop-again
+    same-length
+    returns)

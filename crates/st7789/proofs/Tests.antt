@@ -1,7 +1,7 @@
 -- The refusal tests, and what is known where none of them refuses.
 use Prim.Native.Nat.{ℕ, _+_, _≤_}
 use mathlib.Core.Path.{_≡_, refl, sym, ap, _∙_}
-use mathlib.Core.Bool.{Bool, true, false, _||_}
+use mathlib.Core.Bool.{Bool, true, false, cond, _||_}
 use native.Mathlib.Omega.{arith}
 use borrow.Author.Tests.{eqb-true, ltb-false, not-false}
 use lib.ListN.{getD}
@@ -14,13 +14,14 @@ use Rattle.lists.proofs.Bools.{neither}
 use Rattle.lists.specs.Entries.{some, storedLong, recordLong}
 use Rattle.geometry.specs.Bounds.{windowBad, pointerBad}
 use Rattle.pixels.specs.Spans.{spanBad}
+use Rattle.status.specs.Tests.{countsHigh, transferTests}
 use Rattle.st7789.specs.Parts.{traceOf}
 use Rattle.st7789.specs.Data.{noRecord}
-use Rattle.st7789.specs.Refusals.{countBad, currentBad, badState}
-use Rattle.st7789.specs.Places.{currentSlot, wrongFor}
+use Rattle.st7789.specs.Refusals.{countBad, currentBad, badState, countHigh, transferRefusal}
+use Rattle.st7789.specs.Places.{currentSlot, wrongFor, heldFor, partsBad, judgedFor}
 use Rattle.st7789.specs.Room.{Placed}
 use Rattle.st7789.specs.declared.Controller.{Controller}
-use Rattle.st7789.proofs.Places.{wrong-here}
+use Rattle.st7789.proofs.Places.{wrong-here, held-here}
 
 -- BAD_STATE, clause by clause.
 pub none-of-four : (a b c d : Bool) → a || (b || (c || d)) ≡ false → (a ≡ false) × (b ≡ false) × (c ≡ false) × (d ≡ false)
@@ -83,50 +84,44 @@ in-turn false false false false false false true true k = refl
 in-turn false false false false false false true false k = refl
 in-turn false false false false false false false r k = refl
 
--- What is tested before the records: c, d and b are what was told of chip, stored commands and span.
-abbrev early : Controller → Bool → Bool → Bool → Bool
-early s c d b = c || (d || (countBad (s .logs .traced) || (countBad (s .logs .warned) || b)))
+-- The ways through the tests: x is what was told of the parts.
+module _ (s : Controller) (x : Bool) (ex : x ≡ partsBad (s .chip) (s .stored) (s .marks .dirty) (s .logs)) where
+  turned : badState s ≡ x || (some recordLong (used (traceOf s)) || currentBad (s .logs .current) s)
+  unfolding badState
+  turned =
+      rw ex
+      (in-turn
+      (windowBad (s .chip .window))
+      (pointerBad (s .chip .walk .pointer))
+      (tooLong (s .chip .decoder .params))
+      (some storedLong (s .stored))
+      (countBad (s .logs .traced))
+      (countBad (s .logs .warned))
+      (spanBad (s .marks .dirty))
+      (some recordLong (used (traceOf s)))
+      (currentBad (s .logs .current) s))
 
--- The ways out of `bad_state`.
-module _
-    (s : Controller) (c d b : Bool)
-    (ec : c ≡ windowBad (s .chip .window) || (pointerBad (s .chip .walk .pointer) || tooLong (s .chip .decoder .params)))
-    (ed : d ≡ some storedLong (s .stored)) (eb : b ≡ spanBad (s .marks .dirty))
-  where
-    turned : badState s ≡ early s c d b || (some recordLong (used (traceOf s)) || currentBad (s .logs .current) s)
-    unfolding badState
-    turned =
-        rw (ec, ed, eb)
-        (in-turn
-        (windowBad (s .chip .window))
-        (pointerBad (s .chip .walk .pointer))
-        (tooLong (s .chip .decoder .params))
-        (some storedLong (s .stored))
-        (countBad (s .logs .traced))
-        (countBad (s .logs .warned))
-        (spanBad (s .marks .dirty))
-        (some recordLong (used (traceOf s)))
-        (currentBad (s .logs .current) s))
+  pub bad-early : x ≡ true → true ≡ badState s
+  bad-early e = sym (turned ∙ ap (λ a. a || (some recordLong (used (traceOf s)) || currentBad (s .logs .current) s)) e)
 
-    pub bad-early : early s c d b ≡ true → true ≡ badState s
-    bad-early e = sym (turned ∙ ap (λ a. a || (some recordLong (used (traceOf s)) || currentBad (s .logs .current) s)) e)
+  module _ (e : x ≡ false) where
+    pub traced-within : s .logs .traced ≤ 128
+    traced-within =
+        let counted = countBad (s .logs .traced) || (countBad (s .logs .warned) || spanBad (s .marks .dirty)) in
+        let e1 =
+        neither (windowBad (s .chip .window) || (pointerBad (s .chip .walk .pointer) || tooLong (s .chip .decoder .params)))
+        (some storedLong (s .stored) || counted) (sym ex ∙ e)
+        in
+        let e2 = neither (some storedLong (s .stored)) counted (e1 .1) in
+        ltb-false 128 (s .logs .traced) (neither (countBad (s .logs .traced)) (countBad (s .logs .warned) || spanBad (s .marks .dirty)) (e2 .1) .0)
 
-    module _ (e : early s c d b ≡ false) where
-      pub traced-within : s .logs .traced ≤ 128
-      traced-within =
-          let e1 = neither c (d || (countBad (s .logs .traced) || (countBad (s .logs .warned) || b))) e in
-          let e2 = neither d (countBad (s .logs .traced) || (countBad (s .logs .warned) || b)) (e1 .1) in
-          ltb-false 128 (s .logs .traced) (neither _ _ (e2 .1) .0)
+    pub bad-record : true ≡ some recordLong (used (traceOf s)) → true ≡ badState s
+    bad-record h = sym (turned ∙ rw (e, ← h))
 
-      pub bad-record : true ≡ some recordLong (used (traceOf s)) → true ≡ badState s
-      bad-record h = sym (turned ∙ rw (e, ← h))
-
-      pub bad-late :
-          (at : ℕ) (r : Bool) → false ≡ some recordLong (used (traceOf s)) → at ≡ currentSlot (s .logs .current) →
-          r ≡ wrongFor (s .logs .current) (s .logs .traced) (getD (s .records) at noRecord .params) (s .chip .decoder .params) →
-          r ≡ badState s
-      bad-late at r h ea er =
-          er ∙ wrong-here s (s .logs .current) at traced-within ea ∙ sym (turned ∙ rw (e, ← h))
+    pub bad-late :
+        (at : ℕ) → false ≡ some recordLong (used (traceOf s)) → at ≡ currentSlot (s .logs .current) →
+        wrongFor (s .logs .current) (s .logs .traced) (getD (s .records) at noRecord .params) (s .chip .decoder .params) ≡ badState s
+    bad-late at h ea = wrong-here s (s .logs .current) at traced-within ea ∙ sym (turned ∙ rw (e, ← h))
 
 -- In a state that is not bad the current record is a place of the list.
 placed : (s : Controller) (k : Current) → s .logs .traced ≤ 128 → currentBad k s ≡ false → Placed k
@@ -137,3 +132,29 @@ placed s (At i) h e =
 
 pub current-placed : (s : Controller) → badState s ≡ false → Placed (s .logs .current)
 current-placed s e = let f = fine s e in placed s (s .logs .current) (ltb-false 128 (s .logs .traced) (f .traced)) (f .current)
+
+-- The refusal, where the state is bad and where all tests were made.
+pub refused-bad : (s : Controller) (cells n : ℕ) → true ≡ badState s → 1 ≡ transferRefusal s cells n
+unfolding transferRefusal
+refused-bad s cells n e = ap (λ b. cond b 1 (transferTests cells n (countHigh s))) e
+
+pub refused-late :
+    (s : Controller) (cells n at : ℕ) {x : ℕ} →
+    wrongFor (s .logs .current) (s .logs .traced) (getD (s .records) at noRecord .params) (s .chip .decoder .params) ≡ badState s →
+    at ≡ currentSlot (s .logs .current) →
+    x ≡ judgedFor (s .logs .current) (s .logs .traced) (getD (s .records) at noRecord) (s .chip .decoder .params) (s .counts) cells n →
+    x ≡ transferRefusal s cells n
+unfolding transferRefusal countHigh
+refused-late s cells n at {x} ew ea e = by-test (badState s) refl
+  where
+    held : ℕ → ℕ
+    held m =
+        transferTests cells n
+        (countsHigh (s .counts .commands) (s .counts .«ramwr_count») (s .counts .«pixels_written») (s .counts .«dropped_params») m)
+
+    by-test : (b : Bool) → badState s ≡ b → x ≡ transferRefusal s cells n
+    by-test true eb = e ∙ ap (λ b. cond b 1 (held (heldFor (s .logs .current) (getD (s .records) at noRecord .«pixel_bytes»)))) (ew ∙ eb) ∙ refused-bad s cells n (sym eb)
+    by-test false eb =
+        e
+        ∙ ap (λ b. cond b 1 (held (heldFor (s .logs .current) (getD (s .records) at noRecord .«pixel_bytes»)))) ew
+        ∙ ap (λ m. cond (badState s) 1 (held m)) (held-here (s .logs .current) (s .records) at (current-placed s eb) ea)

@@ -1,12 +1,22 @@
 -- How the code looks at the current record, at a place that the list always has, and the logs of a begun command.
 use Prim.Native.Nat.{ℕ, _+_}
 use mathlib.Core.Bool.{Bool, false, cond, not, _||_}
+use mathlib.Core.List.{List}
 use lib.Dec.{ltb, eqb}
-use Rattle.lists.specs.Params.{differ}
+use Rattle.geometry.specs.Bounds.{windowBad, pointerBad}
+use Rattle.pixels.specs.Spans.{spanBad}
+use Rattle.pixels.specs.declared.Span.{Span}
+use Rattle.status.specs.Tests.{countsHigh, transferTests}
+use Rattle.lists.specs.Entries.{some, storedLong}
+use Rattle.lists.specs.Params.{tooLong, differ}
+use Rattle.lists.specs.declared.Stored.{Stored}
 use Rattle.lists.specs.declared.Params.{Params}
 use Rattle.lists.specs.declared.TraceRecord.{TraceRecord}
 use Rattle.lists.specs.declared.Current.{Current}
 use Rattle.lists.specs.declared.Current.the-variants.{Nothing, At}
+use Rattle.chip.specs.declared.Chip.{Chip}
+use Rattle.st7789.specs.Refusals.{countBad}
+use Rattle.st7789.specs.declared.Counts.{Counts}
 use Rattle.st7789.specs.declared.Logs.{Logs}
 
 -- The place of entry n, the first one where there is none.
@@ -31,6 +41,20 @@ heldFor (At i) n = n
 abbrev pub ifCurrent : (TraceRecord → TraceRecord) → Current → TraceRecord → TraceRecord
 ifCurrent f Nothing r = r
 ifCurrent f (At i) r = f r
+
+-- BAD_STATE but for the records.
+abbrev pub partsBad : Chip → List Stored → Span → Logs → Bool
+partsBad chip stored dirty logs =
+    (windowBad (chip .window) || (pointerBad (chip .walk .pointer) || tooLong (chip .decoder .params))) ||
+    (some storedLong stored || (countBad (logs .traced) || (countBad (logs .warned) || spanBad dirty)))
+
+-- The refusal of a transfer by the record r that stands at the current one's place, by counts and by lengths.
+abbrev pub judgedFor : Current → ℕ → TraceRecord → Params → Counts → ℕ → ℕ → ℕ
+judgedFor k n r q counts cells bytes =
+    cond (wrongFor k n (r .params) q) 1
+    (transferTests cells bytes
+    (countsHigh (counts .commands) (counts .«ramwr_count») (counts .«pixels_written») (counts .«dropped_params»)
+    (heldFor k (r .«pixel_bytes»))))
 
 -- A record more, which is current, or none where there is no room.
 abbrev pub logsBegun : Logs → Logs

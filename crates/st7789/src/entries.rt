@@ -6,12 +6,17 @@ ghost use Rattle.st7789.specs.Data.{storesIn};
 ghost use Rattle.st7789.specs.Entries.{freshController, moved, transferred, transferMemory, bareTransferred, resetState, resetMemory, newMemory};
 ghost use Rattle.st7789.specs.Refusals.{transferRefusal, bareRefusal};
 ghost use Rattle.st7789.specs.Room.{Room};
-ghost use Rattle.status.specs.Numbers.{number};
+ghost use Rattle.status.specs.Numbers.{number, unlessRefused};
 ghost use Rattle.status.specs.Tests.{memoryRefusal};
 use crate::Answer;
 use crate::Controller;
+use crate::current::place;
+use crate::refusals::judged;
+use crate::refusals::parts_bad;
+use crate::wide;
 use board::BoardDomain;
 use status::PANEL_PIXELS;
+use status::Status;
 use status::accepted;
 
 impl Controller {
@@ -36,6 +41,57 @@ impl Controller {
         after.release(cs_release)
     }
 
+    // The tests, and what the transfer does where none of them refuses. So much memory counts as lent.
+    fn carried(
+        self,
+        cells: usize,
+        t: u64,
+        dc: bool,
+        bytes: &[u8],
+        cs_release: bool,
+        memory: &mut [u16],
+    ) -> Answer
+        ensures { λ r. ⌜ number (r .status) ≡ transferRefusal self cells (length (now (bytes .entry))) ⌝ }
+        ensures { λ r. ⌜ r .controller ≡ transferred t dc (now (bytes .entry)) «cs_release» cells self ⌝ }
+        ensures { λ r. ⌜ now (memory .exit) ≡ unlessRefused (transferRefusal self cells (length (now (bytes .entry)))) (written (now (memory .entry)) (storesIn dc (now (bytes .entry)) self)) (now (memory .entry)) ⌝ }
+    {
+        if parts_bad(self.chip, self.stored, self.marks, self.logs) {
+            return Answer {
+                controller: self,
+                status: Status::BadState,
+            };
+        }
+        let n = wide(self.logs.traced);
+        let mut i = 0;
+        while i < n {
+            if self.records[i].params.count > 14 {
+                return Answer {
+                    controller: self,
+                    status: Status::BadState,
+                };
+            }
+            i += 1;
+        }
+        let at = place(self.logs);
+        let record = self.records[at];
+        let status = judged(
+            self.logs,
+            record,
+            self.chip.decoder.params,
+            self.counts,
+            cells,
+            bytes.len(),
+        );
+        if accepted(status) {
+            let controller = self.decode(t, dc, bytes, cs_release, memory);
+            return Answer { controller, status };
+        }
+        Answer {
+            controller: self,
+            status,
+        }
+    }
+
     // One SPI transaction: with dc low each byte begins a command, with dc high the bytes are data. CS release comes last.
     pub fn transfer(
         self,
@@ -49,15 +105,7 @@ impl Controller {
         ensures answer { λ r. ⌜ r .controller ≡ transferred t dc (now (bytes .entry)) «cs_release» (length (now (memory .entry))) self ⌝ }
         ensures lent { λ r. ⌜ now (memory .exit) ≡ transferMemory dc (now (bytes .entry)) (now (memory .entry)) self ⌝ }
     {
-        let status = self.refuse_transfer(memory.len(), bytes.len());
-        if accepted(status) {
-            let controller = self.decode(t, dc, bytes, cs_release, memory);
-            return Answer { controller, status };
-        }
-        Answer {
-            controller: self,
-            status,
-        }
+        self.carried(memory.len(), t, dc, bytes, cs_release, memory)
     }
 
     // The same without memory: the state is the full transfer's.
@@ -65,16 +113,8 @@ impl Controller {
         ensures refusal { λ r. ⌜ number (r .status) ≡ bareRefusal self (length (now (bytes .entry))) ⌝ }
         ensures answer { λ r. ⌜ r .controller ≡ bareTransferred t dc (now (bytes .entry)) «cs_release» self ⌝ }
     {
-        let status = self.refuse_transfer(PANEL_PIXELS, bytes.len());
-        if accepted(status) {
-            let mut none = [0u16; 1];
-            let controller = self.decode(t, dc, bytes, cs_release, &mut none[0..0]);
-            return Answer { controller, status };
-        }
-        Answer {
-            controller: self,
-            status,
-        }
+        let mut none = [0u16; 1];
+        self.carried(PANEL_PIXELS, t, dc, bytes, cs_release, &mut none[0..0])
     }
 
     // Resets a board domain. Only the board rail resets the panel, clearing memory with it.

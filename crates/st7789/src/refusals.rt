@@ -3,14 +3,21 @@ ghost use mathlib.Core.Path.{_≡_};
 ghost use mathlib.Core.Bool.{_||_};
 ghost use Rattle.geometry.specs.Bounds.{windowBad, pointerBad};
 ghost use Rattle.lists.specs.Params.{tooLong};
-ghost use Rattle.st7789.specs.Refusals.{badState, transferRefusal};
+ghost use Rattle.st7789.specs.Refusals.{badState};
+ghost use Rattle.st7789.specs.Places.{partsBad, judgedFor};
 ghost use Rattle.status.specs.Numbers.{number};
 use crate::Controller;
+use crate::Counts;
+use crate::Logs;
+use crate::Marks;
 use crate::current::current_bad;
 use crate::current::held;
 use crate::current::place;
 use crate::wide;
 use chip::Chip;
+use lists::Params;
+use lists::Stored;
+use lists::TraceRecord;
 use status::Status;
 
 fn chip_bad(chip: Chip) -> bool
@@ -21,17 +28,47 @@ fn chip_bad(chip: Chip) -> bool
     corners | (at | (chip.decoder.params.count > 14))
 }
 
+// What BAD_STATE asks of everything but the records.
+pub(crate) fn parts_bad(chip: Chip, stored: [Stored; 12], marks: Marks, logs: Logs) -> bool
+    ensures { λ r. ⌜ r ≡ partsBad chip stored (marks .dirty) logs ⌝ }
+{
+    let bad = chip_bad(chip);
+    let long = lists::stored_long(stored);
+    let dirty = marks.dirty;
+    let span = pixels::span_bad(dirty);
+    bad | (long | ((logs.traced > 128) | ((logs.warned > 128) | span)))
+}
+
+// The tests of a transfer that look at the current record, and those that come after BAD_STATE.
+pub(crate) fn judged(
+    logs: Logs,
+    record: TraceRecord,
+    in_force: Params,
+    counts: Counts,
+    cells: usize,
+    bytes: usize,
+) -> Status
+    ensures { λ r. ⌜ number r ≡ judgedFor (logs .current) (logs .traced) «record» «in_force» counts cells bytes ⌝ }
+{
+    if current_bad(logs, record.params, in_force) {
+        return Status::BadState;
+    }
+    let high = status::counts_high(
+        counts.commands,
+        counts.ramwr_count,
+        counts.pixels_written,
+        counts.dropped_params,
+        held(logs, record.pixel_bytes),
+    );
+    status::transfer_status(cells, bytes, high)
+}
+
 impl Controller {
     // BAD_STATE: whether the state is one that no transfer and no publishing takes.
     pub fn bad_state(self) -> bool
         ensures answer { λ r. ⌜ r ≡ badState self ⌝ }
     {
-        let bad = chip_bad(self.chip);
-        let long = lists::stored_long(self.stored);
-        let marks = self.marks;
-        let dirty = marks.dirty;
-        let span = pixels::span_bad(dirty);
-        if bad | (long | ((self.logs.traced > 128) | ((self.logs.warned > 128) | span))) {
+        if parts_bad(self.chip, self.stored, self.marks, self.logs) {
             return true;
         }
         let n = wide(self.logs.traced);
@@ -45,23 +82,5 @@ impl Controller {
         let at = place(self.logs);
         let record = self.records[at];
         current_bad(self.logs, record.params, self.chip.decoder.params)
-    }
-
-    // Why a transfer with this much memory and this many bytes is refused, or that it is not.
-    pub(crate) fn refuse_transfer(self, cells: usize, bytes: usize) -> Status
-        ensures { λ r. ⌜ number r ≡ transferRefusal self cells bytes ⌝ }
-    {
-        if self.bad_state() {
-            return Status::BadState;
-        }
-        let at = place(self.logs);
-        let high = status::counts_high(
-            self.counts.commands,
-            self.counts.ramwr_count,
-            self.counts.pixels_written,
-            self.counts.dropped_params,
-            held(self.logs, self.records[at].pixel_bytes),
-        );
-        status::transfer_status(cells, bytes, high)
     }
 }

@@ -1,5 +1,6 @@
-// For timing from outside: public operations run many times over lent buffers. No rule of 01 stands here and no crate is above it.
+// For timing from outside: what a host with memory calls, run many times over lent buffers. No rule of 01 stands here and no crate is above it.
 use board::Power;
+use chip::Registers;
 use pixels::Span;
 use st7789::Answer;
 use st7789::Controller;
@@ -163,13 +164,13 @@ fn view_of(number: u8) -> FrameView {
     }
 }
 
-// A whole view of a powered panel after these commands, dimmed by level over scale. The answer counts refusals.
+// A whole view of a lit panel, dimmed by level over scale. The answer counts refusals.
 #[no_mangle]
 pub extern "C" fn timed_view(
     number: u8,
     level: u32,
     scale: u32,
-    commands: &[u8],
+    inverted: u8,
     turns: usize,
     memory: &[u16],
     buffer: &mut [u16],
@@ -180,28 +181,25 @@ pub extern "C" fn timed_view(
         scale,
         duty: 0,
     };
-    let mut fresh = Controller::fresh(true);
-    fresh.power = power;
-    let a = fresh.transfer_without_memory(0, false, commands, false);
+    let mut controller = Controller::fresh(true);
+    let mut chip = controller.chip;
+    let old = chip.registers;
+    let registers = Registers {
+        sleeping: false,
+        display_on: true,
+        inverted: inverted == 1,
+        ..old
+    };
+    chip.registers = registers;
+    controller.chip = chip;
+    controller.power = power;
     let mut refused: u64 = 0;
     let mut i = 0;
     while i < turns {
         let view = view_of(number);
-        let status = views::frame(a.controller, view, memory, buffer);
+        let status = views::frame(controller, view, memory, buffer);
         refused = counted(refused, status);
         i += 1;
     }
     refused
-}
-
-// A log from its bytes to the report. The answer is the report's length.
-#[no_mangle]
-pub extern "C" fn timed_replay(log: &[u8], turns: usize, out: &mut [u8]) -> usize {
-    let mut length = 0;
-    let mut i = 0;
-    while i < turns {
-        length = replay::print_log(log, out);
-        i += 1;
-    }
-    length
 }

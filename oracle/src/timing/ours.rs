@@ -1,4 +1,4 @@
-//! The re-implementation's entry points for timing, as the archive of its crate `timed` exports them.
+//! The re-implementation's entry points for timing, as the archives of its crates `timed` and `timed_log` export them.
 //! A lent slice goes over as a pointer and a length. Nothing checks these lines against its source.
 
 mod foreign {
@@ -28,8 +28,7 @@ mod foreign {
             number: u8,
             level: u32,
             scale: u32,
-            commands: *const u8,
-            commands_length: usize,
+            inverted: u8,
             turns: usize,
             memory: *const u16,
             memory_length: usize,
@@ -92,7 +91,7 @@ pub fn publish(first: u16, last: u16, turns: usize, memory: &[u16], frame: &mut 
 pub fn view(
     number: u8,
     (level, scale): (u32, u32),
-    commands: &[u8],
+    inverted: bool,
     turns: usize,
     memory: &[u16],
     buffer: &mut [u16],
@@ -102,8 +101,7 @@ pub fn view(
             number,
             level,
             scale,
-            commands.as_ptr(),
-            commands.len(),
+            u8::from(inverted),
             turns,
             memory.as_ptr(),
             memory.len(),

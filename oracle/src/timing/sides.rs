@@ -198,15 +198,13 @@ fn timed(best: [f64; 2], turns: usize, refused: u64) -> Timed {
     }
 }
 
-/// A whole view of a lit panel: SLPOUT, DISPON, and INVON where memory is to be shown as it is.
+/// A whole view of a lit panel, inverted where memory is to be shown as it is.
 pub fn view(number: u8, plain: bool, rounds: usize) -> Timed {
     let view = [FrameView::Raw, FrameView::Glass, FrameView::Perceived][usize::from(number)];
-    let commands: &[u8] = if plain { b"\x11\x29\x21" } else { b"\x11\x29" };
     let pair = (700, 1024);
     let mut panel = panel();
-    panel.transfer(VTime(0), false, commands, false);
     let f = fields(&mut panel);
-    *f.powered = true;
+    (*f.powered, *f.sleeping, *f.display_on, *f.inverted) = (true, false, true, plain);
     *f.brightness = crate::backlight::reach::pair(pair.0, pair.1);
     for (number, at) in f.ram.iter_mut().zip(0u32..) {
         *number = (at.wrapping_mul(2_654_435_761) >> 13) as u16;
@@ -218,7 +216,7 @@ pub fn view(number: u8, plain: bool, rounds: usize) -> Timed {
         0 => {
             black_box(black_box(&panel).frame(view));
         }
-        _ => refused += ours::view(number, pair, commands, 1, black_box(&memory), &mut buffer),
+        _ => refused += ours::view(number, pair, plain, 1, black_box(&memory), &mut buffer),
     });
     same("view", &panel.frame(view), &buffer);
     timed(best, 1, refused)

@@ -6,16 +6,13 @@ use Rattle.timed.proofs.timed_view.Statement.{statement}
 use Rattle.timed.proofs.timed_view.Tie as tie
 
 abbrev Inv-loop : tie.InvT-loop
-Inv-loop number level scale commands turns memory buffer₀ a refused₀ i₀ buffer refused i = length buffer ≡ length buffer₀
+Inv-loop number level scale inverted turns memory buffer₀ controller refused₀ i₀ buffer refused i = length buffer ≡ length buffer₀
 
 abbrev μ-loop : tie.MeasureT-loop
-μ-loop number level scale commands turns memory buffer₀ a refused₀ i₀ buffer refused i = turns - i
+μ-loop number level scale inverted turns memory buffer₀ controller refused₀ i₀ buffer refused i = turns - i
 
 fresh-requires : tie.Need-fresh-requires Inv-loop μ-loop
 fresh-requires c κs = search needs
-
-transfer-without-memory-requires : tie.Need-transfer-without-memory-requires Inv-loop μ-loop
-transfer-without-memory-requires c κs = search needs
 
 loop-holds : tie.Need-loop-holds Inv-loop μ-loop
 loop-holds c = search needs
@@ -51,7 +48,6 @@ timed-view-spec =
     Inv-loop
     μ-loop
     fresh-requires
-    transfer-without-memory-requires
     loop-holds
     view-of-requires
     frame-requires

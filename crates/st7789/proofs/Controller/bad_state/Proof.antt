@@ -1,5 +1,5 @@
 use Prim.Native.Nat.{_-_}
-use mathlib.Core.Path.{_≡_}
+use mathlib.Core.Path.{_≡_, _∙_}
 use native.Mathlib.Omega.{arith}
 use borrow.Author.Needs.{needs}
 use borrow.Author.Tests.{lt-ltb, le-ltb}
@@ -17,37 +17,31 @@ use Rattle.st7789.proofs.Controller.bad_state.Statement.{statement}
 use Rattle.st7789.proofs.Controller.bad_state.Tie as tie
 
 abbrev Inv-loop : tie.InvT-loop
-Inv-loop self bad long span n i₀ i = Scan recordLong (used (traceOf self)) n i
+Inv-loop self n i₀ i = Scan recordLong (used (traceOf self)) n i
 
 abbrev μ-loop : tie.MeasureT-loop
-μ-loop self bad long span n i₀ i = n - i
+μ-loop self n i₀ i = n - i
 
-chip-bad-requires : tie.Need-chip-bad-requires Inv-loop μ-loop
-chip-bad-requires c κs = search needs
-
-stored-long-requires : tie.Need-stored-long-requires Inv-loop μ-loop
-stored-long-requires c κs = search needs
-
-span-bad-requires : tie.Need-span-bad-requires Inv-loop μ-loop
-span-bad-requires c κs = search needs
+parts-bad-requires : tie.Need-parts-bad-requires Inv-loop μ-loop
+parts-bad-requires c κs = search needs
 
 returns : tie.Need-returns Inv-loop μ-loop
-returns c = bad-early _ _ _ _ (c .before .before .before .before .before .chip-bad .ensures) (c .before .before .before .stored-long .ensures) (c .before .span-bad .ensures) (c .if1 .taken)
+returns c = bad-early _ _ (c .before .parts-bad .ensures) (c .if1 .taken)
 
 wide-requires : tie.Need-wide-requires Inv-loop μ-loop
 wide-requires c κs = search needs
 
 loop-holds : tie.Need-loop-holds Inv-loop μ-loop
-loop-holds c = let s = c .before .before .before .before .before .before .before .before .args .t1 in let h : length (s .records) ≡ 128 = unmapped TraceRecord (traceRecord.the-field .row .Denot) (traceRecord.the-field .into) (s .records) 128 (c .before .before .before .before .before .before .before .before .good .0 .1 .1 .1 .1 .1 .1 .1 .1 .1 .0 .1 .0 .1) in scan-first (rw length-take (omega (arith, c .wide .ensures, traced-within s _ _ _ (c .before .before .before .before .before .before .chip-bad .ensures) (c .before .before .before .before .stored-long .ensures) (c .before .before .span-bad .ensures) (c .before .if1 .left), h)))
+loop-holds c = let s = c .before .before .before .before .before .before .before .args .t1 in let h : length (s .records) ≡ 128 = unmapped TraceRecord (traceRecord.the-field .row .Denot) (traceRecord.the-field .into) (s .records) 128 (c .before .before .before .before .before .before .before .good .0 .1 .1 .1 .1 .1 .1 .1 .1 .1 .0 .1 .0 .1) in scan-first (rw length-take (omega (arith, c .wide .ensures, traced-within s _ (c .before .before .parts-bad .ensures) (c .before .if1 .left), h)))
 
 mul-if2 : tie.Need-mul-if2 Inv-loop μ-loop
-mul-if2 c = let h = traced-within (c .before .before .before .before .before .before .before .before .before .before .args .t1) _ _ _ (c .before .before .before .before .before .before .before .before .chip-bad .ensures) (c .before .before .before .before .before .before .stored-long .ensures) (c .before .before .before .before .span-bad .ensures) (c .before .before .before .if1 .left) in omega (arith, c .before .before .wide .ensures, h, c .loop-test .taken)
+mul-if2 c = let h = traced-within (c .before .before .before .before .before .before .before .before .before .args .t1) _ (c .before .before .before .before .parts-bad .ensures) (c .before .before .before .if1 .left) in omega (arith, c .before .before .wide .ensures, h, c .loop-test .taken)
 
 element-copy-out-if2 : tie.Need-element-copy-out-if2 Inv-loop μ-loop
-element-copy-out-if2 c = let h = traced-within (c .before .before .before .before .before .before .before .before .before .before .args .t1) _ _ _ (c .before .before .before .before .before .before .before .before .chip-bad .ensures) (c .before .before .before .before .before .before .stored-long .ensures) (c .before .before .before .before .span-bad .ensures) (c .before .before .before .if1 .left) in omega (arith, c .before .before .wide .ensures, h, c .loop-test .taken)
+element-copy-out-if2 c = let h = traced-within (c .before .before .before .before .before .before .before .before .before .args .t1) _ (c .before .before .before .before .parts-bad .ensures) (c .before .before .before .if1 .left) in omega (arith, c .before .before .wide .ensures, h, c .loop-test .taken)
 
 returns-2 : tie.Need-returns-2 Inv-loop μ-loop
-returns-2 c = let s = c .before .before .before .before .before .before .before .before .before .before .before .args .t1 in let l = c .before .before .loop in bad-record s _ _ _ (c .before .before .before .before .before .before .before .before .before .chip-bad .ensures) (c .before .before .before .before .before .before .before .stored-long .ensures) (c .before .before .before .before .before .span-bad .ensures) (c .before .before .before .before .if1 .left) (found (l .inv) noRecord (c .before .loop-test .taken) (rw (getD-take (s .logs .traced) (s .records) (l .i) noRecord (omega (arith, c .before .before .before .wide .ensures, c .before .loop-test .taken))) (lt-ltb _ _ (c .if2 .taken))))
+returns-2 c = let s = c .before .before .before .before .before .before .before .before .before .before .args .t1 in let l = c .before .before .loop in bad-record s _ (c .before .before .before .before .before .parts-bad .ensures) (c .before .before .before .before .if1 .left) (found (l .inv) noRecord (c .before .loop-test .taken) (rw (getD-take (s .logs .traced) (s .records) (l .i) noRecord (omega (arith, c .before .before .before .wide .ensures, c .before .loop-test .taken))) (lt-ltb _ _ (c .if2 .taken))))
 
 add-i : tie.Need-add-i Inv-loop μ-loop
 add-i c = search needs
@@ -56,7 +50,7 @@ loop-less : tie.Need-loop-less Inv-loop μ-loop
 loop-less c = search needs
 
 loop-again : tie.Need-loop-again Inv-loop μ-loop
-loop-again c = let s = c .before .before .before .before .before .before .before .before .before .before .before .args .t1 in let l = c .before .before .loop in scan-next (l .inv) noRecord (c .before .loop-test .taken) (rw (getD-take (s .logs .traced) (s .records) (l .i) noRecord (omega (arith, c .before .before .before .wide .ensures, c .before .loop-test .taken))) (le-ltb _ _ (c .if2 .left)))
+loop-again c = let s = c .before .before .before .before .before .before .before .before .before .before .args .t1 in let l = c .before .before .loop in scan-next (l .inv) noRecord (c .before .loop-test .taken) (rw (getD-take (s .logs .traced) (s .records) (l .i) noRecord (omega (arith, c .before .before .before .wide .ensures, c .before .loop-test .taken))) (le-ltb _ _ (c .if2 .left)))
 
 place-requires : tie.Need-place-requires Inv-loop μ-loop
 place-requires c κs = search needs
@@ -71,7 +65,7 @@ current-bad-requires : tie.Need-current-bad-requires Inv-loop μ-loop
 current-bad-requires c κs = search needs
 
 returns-3 : tie.Need-returns-3 Inv-loop μ-loop
-returns-3 c = bad-late _ _ _ _ (c .before .before .before .before .before .before .before .before .before .before .before .before .before .before .chip-bad .ensures) (c .before .before .before .before .before .before .before .before .before .before .before .before .stored-long .ensures) (c .before .before .before .before .before .before .before .before .before .before .span-bad .ensures) (c .before .before .before .before .before .before .before .before .before .if1 .left) _ _ (ended (c .before .before .before .before .before .before .before .loop .inv) (c .before .before .before .before .before .before .loop-test .left)) (c .before .before .before .before .place .ensures .0) (c .current-bad .ensures)
+returns-3 c = let s = c .before .before .before .before .before .before .before .before .before .before .before .before .before .before .before .args .t1 in c .current-bad .ensures ∙ bad-late s _ (c .before .before .before .before .before .before .before .before .before .before .parts-bad .ensures) (c .before .before .before .before .before .before .before .before .before .if1 .left) _ (ended (c .before .before .before .before .before .before .before .loop .inv) (c .before .before .before .before .before .before .loop-test .left)) (c .before .before .before .before .place .ensures .0)
 
 pub bad-state-spec : {M : Type 1} → statement M
 bad-state-spec =
@@ -79,9 +73,7 @@ bad-state-spec =
     (tie.spec
     Inv-loop
     μ-loop
-    chip-bad-requires
-    stored-long-requires
-    span-bad-requires
+    parts-bad-requires
     returns
     wide-requires
     loop-holds

@@ -2,8 +2,8 @@ use mathlib.Core.Path.{_≡_}
 use Prim.Native.Nat.{_-_}
 use lib.ListN.{length}
 use borrow.Author.Needs.{needs}
-use Rattle.timed.proofs.timed_replay.Statement.{statement}
-use Rattle.timed.proofs.timed_replay.Tie as tie
+use Rattle.timed_log.proofs.timed_replay.Statement.{statement}
+use Rattle.timed_log.proofs.timed_replay.Tie as tie
 
 abbrev Inv-loop : tie.InvT-loop
 Inv-loop log turns out₀ wrote₀ i₀ out wrote i = length out ≡ length out₀

@@ -8,6 +8,8 @@ use std::{fs, thread};
 
 use crate::cases::{Case, Kind, Programs, folder, joined};
 use crate::coverage::Coverage;
+use crate::log;
+use crate::report::{bit, line};
 
 pub const USAGE: &str = "\
 oracle compare SEED CASES [THREADS]
@@ -172,6 +174,9 @@ fn show(seed: u64, number: u64) -> io::Result<()> {
         Kind::Log => small.input.iter().map(|b| format!("{b:02x}")).collect(),
     };
     println!("{}", shown.trim_end());
+    if small.kind == Kind::Log {
+        print!("{}", as_script(&small.input));
+    }
     let (rust, ours) = (small.rust(None), programs.answer(&small)?);
     let lines = |answer: &[u8]| -> Vec<String> {
         let text = String::from_utf8_lossy(answer).into_owned();
@@ -184,6 +189,21 @@ fn show(seed: u64, number: u64) -> io::Result<()> {
     println!("the Rust: {}", rust.get(at).unwrap_or(&end));
     println!("ours:     {}", ours.get(at).unwrap_or(&end));
     Ok(())
+}
+
+/// A good log's records as lines of a script; of a bad log nothing.
+fn as_script(log: &[u8]) -> String {
+    let mut text = String::new();
+    for r in log::records(log).unwrap_or_default() {
+        let bytes: String = r.bytes.iter().map(|b| format!("{b:02x}")).collect();
+        let bytes = if bytes.is_empty() { "-" } else { &bytes };
+        let (dc, release) = (bit(r.dc), bit(r.release));
+        line(
+            &mut text,
+            format_args!("transfer {} {dc} {release} {bytes}", r.time),
+        );
+    }
+    text
 }
 
 /// The shortest beginning that differs, with every line or record left out that need not be there.

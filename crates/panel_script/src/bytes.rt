@@ -103,7 +103,7 @@ fn put_piece(piece: &[u8], out: &mut [u8], at: usize) -> Expanded
 
 // The bytes of a word, at the buffer's start. Not good where the word makes no sense or the buffer has too little room.
 pub fn expand(word: &[u8], out: &mut [u8]) -> Expanded
-    ensures answer { λ r. ⌜ r .count ≤ length (now (out .exit)) ⌝ }
+    ensures { λ r. ⌜ r .count ≤ length (now (out .exit)) ⌝ }
 {
     if words::is(word, b"-") {
         return Expanded {

@@ -27,7 +27,7 @@ fn none() -> Number
 
 // What a digit stands for, 16 for any other byte.
 pub fn digit(byte: u8) -> u64
-    ensures answer { λ r. ⌜ r ≡ digitValue byte ⌝ }
+    ensures { λ r. ⌜ r ≡ digitValue byte ⌝ }
 {
     if byte < 48 {
         return 16;
@@ -86,7 +86,7 @@ fn read(word: &[u8], base: u64, most: u64) -> Number
 
 // One or more decimal digits whose value is at most `most`.
 pub fn decimal(word: &[u8], most: u64) -> Number
-    ensures answer { λ r. ⌜ r ≡ decimalOf most (now (word .entry)) ⌝ }
+    ensures { λ r. ⌜ r ≡ decimalOf most (now (word .entry)) ⌝ }
 {
     if word.len() == 0 {
         return none();
@@ -96,7 +96,7 @@ pub fn decimal(word: &[u8], most: u64) -> Number
 
 // So many lower-case hex digits, whose value fits 64 bits.
 pub fn hex(word: &[u8], digits: usize) -> Number
-    ensures answer { λ r. ⌜ r ≡ hexOf digits (now (word .entry)) ⌝ }
+    ensures { λ r. ⌜ r ≡ hexOf digits (now (word .entry)) ⌝ }
 {
     if word.len() != digits {
         return none();

@@ -34,7 +34,7 @@ fn past(bytes: &[u8], from: usize, b: u8) -> usize
 
 // What follows a place; nothing past the end.
 pub fn tail(bytes: &[u8], from: usize) -> &[u8]
-    ensures answer { λ r. ⌜ now r ≡ drop from (now (bytes .entry)) ⌝ }
+    ensures { λ r. ⌜ now r ≡ drop from (now (bytes .entry)) ⌝ }
 {
     let end = bytes.len();
     if from <= end {
@@ -45,7 +45,7 @@ pub fn tail(bytes: &[u8], from: usize) -> &[u8]
 
 // What stands before the first byte b; all of it where there is none.
 pub fn before(bytes: &[u8], b: u8) -> &[u8]
-    ensures answer { λ r. ⌜ now r ≡ beforeFirst b (now (bytes .entry)) ⌝ }
+    ensures { λ r. ⌜ now r ≡ beforeFirst b (now (bytes .entry)) ⌝ }
 {
     let end = first(bytes, 0, b);
     &bytes[..end]
@@ -53,7 +53,7 @@ pub fn before(bytes: &[u8], b: u8) -> &[u8]
 
 // Word k, counted from 0; nothing where there are fewer.
 pub fn word(text: &[u8], k: usize) -> &[u8]
-    ensures answer { λ r. ⌜ now r ≡ wordAt k (now (text .entry)) ⌝ }
+    ensures { λ r. ⌜ now r ≡ wordAt k (now (text .entry)) ⌝ }
 {
     let mut at = 0;
     let mut i = 0;
@@ -69,7 +69,7 @@ pub fn word(text: &[u8], k: usize) -> &[u8]
 
 // Whether two texts are the same.
 pub fn is(text: &[u8], other: &[u8]) -> bool
-    ensures answer { λ r. ⌜ r ≡ same (now (text .entry)) (now (other .entry)) ⌝ }
+    ensures { λ r. ⌜ r ≡ same (now (text .entry)) (now (other .entry)) ⌝ }
 {
     if text.len() != other.len() {
         return false;

@@ -3,6 +3,9 @@
 use std::env;
 use std::process::ExitCode;
 
+#[path = "../coverage.rs"]
+#[allow(dead_code)]
+mod coverage;
 #[path = "../log.rs"]
 #[allow(dead_code)]
 mod log;

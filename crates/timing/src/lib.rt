@@ -1,6 +1,9 @@
 // The timing lint: what the firmware did too early. Warnings only, never enforced. Times are nanoseconds.
 ghost use mathlib.Core.Path.{_≡_};
+ghost use mathlib.Core.Bool.{cond, _||_};
 ghost use Prim.Native.Nat.{_-_};
+ghost use lib.Dec.{eqb};
+ghost use Rattle.timing.specs.declared.Moment.the-variants.{At};
 ghost use Rattle.timing.specs.Lint.{soonAfter, breaks1, breaks2, breaks3, brokenBy, freshTimes, timesAfter};
 
 const SLPOUT_SETTLE: u64 = 5_000_000;
@@ -79,6 +82,31 @@ pub fn lint(times: Times, colmod: u8, c: u8, t: u64) -> Broken
     }
 }
 
+impl Moment {
+    // The last SLPOUT after command c. The old one is made anew: as a copy it would take its padding along, which is slow in a long segment.
+    fn after(self, c: u8, t: u64) -> Moment
+        ensures { λ r. ⌜ r ≡ cond (eqb c 0x11) (At t) self ⌝ }
+    {
+        if c == 0x11 {
+            return Moment::At(t);
+        }
+        match self {
+            Moment::Never => Moment::Never,
+            Moment::At(at) => Moment::At(at),
+        }
+    }
+}
+
+// The last sleep-in after command c.
+fn slpin_after(slpin: u64, c: u8, t: u64) -> u64
+    ensures { λ r. ⌜ r ≡ cond (eqb c 0x10 || eqb c 0x01) t slpin ⌝ }
+{
+    if (c == 0x10) | (c == 0x01) {
+        return t;
+    }
+    slpin
+}
+
 impl Times {
     pub fn fresh() -> Times
         ensures answer { λ r. ⌜ r ≡ freshTimes ⌝ }
@@ -93,13 +121,11 @@ impl Times {
     pub fn after(self, c: u8, t: u64) -> Times
         ensures answer { λ r. ⌜ r ≡ timesAfter self c t ⌝ }
     {
-        match c {
-            0x11 => Times {
-                slpout: Moment::At(t),
-                ..self
-            },
-            0x01 | 0x10 => Times { slpin: t, ..self },
-            _ => self,
+        let old = self.slpout;
+        let slpout = old.after(c, t);
+        Times {
+            slpout,
+            slpin: slpin_after(self.slpin, c, t),
         }
     }
 }

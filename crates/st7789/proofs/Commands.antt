@@ -8,7 +8,8 @@ use native.Mathlib.Omega.{arith}
 use lib.Dec.{ltb, eqb}
 use lib.ListN.{length, set, getD, drop, drop-of-length-le}
 use lib.Seq.{drop-cons, set-getD}
-use Rattle.lists.specs.Fixed.{Fixed, pushAll}
+use Rattle.lists.specs.Fixed.{Fixed, push, pushAll}
+use Rattle.lists.proofs.Bools.{neither}
 use Rattle.lists.specs.declared.TraceRecord.{TraceRecord}
 use Rattle.lists.specs.declared.Warning.{Warning}
 use Rattle.lists.specs.declared.Current.the-variants.{Nothing, At}
@@ -45,13 +46,33 @@ rules-in-turn f w b = go (b .rule1) (b .rule2) (b .rule3)
     go false false true = refl
     go false false false = refl
 
+-- The trace after a record more.
+abbrev pushed : ℕ → List TraceRecord → TraceRecord → Fixed TraceRecord
+pushed n l x = push 128 (record { count = n; places = l }) x
+
 -- The record is stored where there is room, what stood there where there is none.
 record-put :
-    (b : Bool) (n : ℕ) (l : List TraceRecord) (x : TraceRecord) (f : ℕ → List TraceRecord → Controller) →
-    let g : Fixed TraceRecord = cond b (record { count = n + 1; places = set l n x }) (record { count = n; places = l }) in
-    f (cond b (n + 1) n) (set l (cond b n 0) (cond b x (getD l (cond b n 0) noRecord))) ≡ f (g .count) (g .places)
-record-put true n l x f = refl
-record-put false n l x f = ap (f n) (set-getD l 0 noRecord)
+    (n : ℕ) (l : List TraceRecord) (x : TraceRecord) {at : ℕ} {r : TraceRecord} → at ≡ slotOf n →
+    r ≡ cond (ltb n 128) x (getD l at noRecord) → set l at r ≡ pushed n l x .places
+record-put n l x ea er = rw (er, ea) (go (ltb n 128))
+  where
+    go :
+        (b : Bool) →
+        let g : Fixed TraceRecord = cond b (record { count = n + 1; places = set l n x }) (record { count = n; places = l }) in
+        set l (cond b n 0) (cond b x (getD l (cond b n 0) noRecord)) ≡ g .places
+    go true = refl
+    go false = set-getD l 0 noRecord
+
+full-trace : (n : ℕ) (l : List TraceRecord) (x : TraceRecord) → ltb n 128 ≡ false → l ≡ pushed n l x .places
+full-trace n l x e = rw e
+
+-- The count of the trace beside its places.
+count-put :
+    (b : Bool) (n : ℕ) (l m : List TraceRecord) (f : ℕ → List TraceRecord → Controller) →
+    let g : Fixed TraceRecord = cond b (record { count = n + 1; places = m }) (record { count = n; places = l }) in
+    f (cond b (n + 1) n) (g .places) ≡ f (g .count) (g .places)
+count-put true n l m f = refl
+count-put false n l m f = refl
 
 none-broken : (x y z : Bool) → x || (y || z) ≡ false → rulesOf (record { rule1 = x; rule2 = y; rule3 = z }) ≡ []
 none-broken true y z e = absurd (true≢false e)
@@ -109,56 +130,65 @@ abbrev pub put : Controller → Chip → Counts → Logs → Controller
 put s chip counts logs = whole (s .cfg) (s .power) chip counts (s .marks .dirty) logs (s .stored) (s .records) (s .warnings)
 
 -- The controller after a turn, before the warnings.
-abbrev turned : Controller → Chip → Counts → Logs → ℕ → TraceRecord → Controller
-turned s chip counts logs at r =
-    whole (s .cfg) (s .power) chip counts (s .marks .dirty) logs (s .stored) (set (s .records) at r) (s .warnings)
+abbrev turned : Controller → Chip → Counts → Logs → List TraceRecord → Controller
+turned s chip counts logs l = whole (s .cfg) (s .power) chip counts (s .marks .dirty) logs (s .stored) l (s .warnings)
 
 module _
-    (c t : ℕ) (s : Controller) {b : Broken} {at : ℕ} {r : TraceRecord} {chip : Chip} {counts : Counts} {logs : Logs}
-    (eb : b ≡ brokenBy (s .chip .times) (s .chip .registers .colmod) c t) (ea : at ≡ slotOf (s .logs .traced))
-    (er : r ≡ cond (ltb (s .logs .traced) 128) (begunRecord c t) (getD (s .records) at noRecord)) (ech : chip ≡ chipBegun c t (s .chip))
+    (c t : ℕ) (s : Controller) {b : Broken} {chip : Chip} {counts : Counts} {logs : Logs}
+    (eb : b ≡ brokenBy (s .chip .times) (s .chip .registers .colmod) c t) (ech : chip ≡ chipBegun c t (s .chip))
     (ect : counts ≡ countsBegun c (s .counts)) (el : logs ≡ logsBegun (s .logs))
   where
     -- the warnings may come last
-    late : withWarnings (pushAll 128 (warningsOf (turned s chip counts logs at r)) (map (warning c t) (rulesOf b))) (turned s chip counts logs at r) ≡ begun c t s
+    late :
+        {l : List TraceRecord} → l ≡ pushed (s .logs .traced) (s .records) (begunRecord c t) .places →
+        withWarnings (pushAll 128 (warningsOf (turned s chip counts logs l)) (map (warning c t) (rulesOf b))) (turned s chip counts logs l) ≡
+        begun c t s
     unfolding begun
-    late =
+    late er =
         let n = s .logs .traced in
         let w : Fixed Warning =
         pushAll 128 (warningsOf s) (map (warning c t) (rulesOf (brokenBy (s .chip .times) (s .chip .registers .colmod) c t)))
         in
-        rw (eb, ech, ect, el, er, ea)
-        (record-put (ltb n 128) n (s .records) (begunRecord c t)
+        rw (eb, ech, ect, el, er)
+        (count-put (ltb n 128) n (s .records) (set (s .records) n (begunRecord c t))
         (λ k l.
         whole (s .cfg) (s .power) (chipBegun c t (s .chip)) (countsBegun c (s .counts)) (s .marks .dirty)
         (record { traced = k; warned = w .count; current = cond (ltb n 128) (At n) Nothing })
         (s .stored) l (w .places)))
 
-    pub quiet-turn : ltb (logs .warned) 128 && (b .rule1 || (b .rule2 || b .rule3)) ≡ false → turned s chip counts logs at r ≡ begun c t s
+    -- nothing to keep
+    pub quiet-turn :
+        ltb (s .logs .traced) 128 || (ltb (logs .warned) 128 && (b .rule1 || (b .rule2 || b .rule3))) ≡ false →
+        turned s chip counts logs (s .records) ≡ begun c t s
     quiet-turn e =
-        ap (λ f. withWarnings f (turned s chip counts logs at r))
-        (sym (nothing-kept (warningsOf (turned s chip counts logs at r)) (warning c t) b e))
-        ∙ late
+        let n = s .logs .traced in
+        let k = neither (ltb n 128) (ltb (logs .warned) 128 && (b .rule1 || (b .rule2 || b .rule3))) e in
+        ap (λ f. withWarnings f (turned s chip counts logs (s .records)))
+        (sym (nothing-kept (warningsOf (turned s chip counts logs (s .records))) (warning c t) b (k .1)))
+        ∙ late (full-trace n (s .records) (begunRecord c t) (k .0))
 
     pub loud-turn :
-        {at₁ at₂ at₃ n₂ n₃ n₄ : ℕ} {w₁ w₂ w₃ : Warning} → at₁ ≡ slotOf (logs .warned) →
+        {at at₁ at₂ at₃ n₂ n₃ n₄ : ℕ} {r : TraceRecord} {w₁ w₂ w₃ : Warning} → at ≡ slotOf (s .logs .traced) →
+        r ≡ cond (ltb (s .logs .traced) 128) (begunRecord c t) (getD (s .records) at noRecord) → at₁ ≡ slotOf (logs .warned) →
         w₁ ≡ cond (b .rule1 && ltb (logs .warned) 128) (warning c t 1) (getD (s .warnings) at₁ noWarning) →
         n₂ ≡ cond (b .rule1 && ltb (logs .warned) 128) (logs .warned + 1) (logs .warned) → at₂ ≡ slotOf n₂ →
         w₂ ≡ cond (b .rule2 && ltb n₂ 128) (warning c t 2) (getD (set (s .warnings) at₁ w₁) at₂ noWarning) →
         n₃ ≡ cond (b .rule2 && ltb n₂ 128) (n₂ + 1) n₂ → at₃ ≡ slotOf n₃ →
         w₃ ≡ cond (b .rule3 && ltb n₃ 128) (warning c t 3) (getD (set (set (s .warnings) at₁ w₁) at₂ w₂) at₃ noWarning) →
         n₄ ≡ cond (b .rule3 && ltb n₃ 128) (n₃ + 1) n₃ →
-        withWarnings (record { count = n₄; places = set (set (set (s .warnings) at₁ w₁) at₂ w₂) at₃ w₃ }) (turned s chip counts logs at r) ≡
+        withWarnings (record { count = n₄; places = set (set (set (s .warnings) at₁ w₁) at₂ w₂) at₃ w₃ })
+        (turned s chip counts logs (set (s .records) at r)) ≡
         begun c t s
-    loud-turn {at₁} {at₂} {at₃} {n₂} {n₃} {n₄} {w₁} {w₂} {w₃} ea₁ ew₁ en₂ ea₂ ew₂ en₃ ea₃ ew₃ en₄ =
-        ap (λ f. withWarnings f (turned s chip counts logs at r))
+    loud-turn {at} {at₁} {at₂} {at₃} {n₂} {n₃} {n₄} {r} {w₁} {w₂} {w₃} ea er ea₁ ew₁ en₂ ea₂ ew₂ en₃ ea₃ ew₃ en₄ =
+        let l = set (s .records) at r in
+        ap (λ f. withWarnings f (turned s chip counts logs l))
         (warned-put (b .rule3) (warning c t 3) n₃ (set (set (s .warnings) at₁ w₁) at₂ w₂) ea₃ ew₃ en₄
         ∙ ap (λ f. pushAll 128 f (cond (b .rule3) (warning c t 3 ∷ []) []))
         (warned-put (b .rule2) (warning c t 2) n₂ (set (s .warnings) at₁ w₁) ea₂ ew₂ en₃
         ∙ ap (λ f. pushAll 128 f (cond (b .rule2) (warning c t 2 ∷ []) []))
         (warned-put (b .rule1) (warning c t 1) (logs .warned) (s .warnings) ea₁ ew₁ en₂))
-        ∙ rules-in-turn (warningsOf (turned s chip counts logs at r)) (warning c t) b)
-        ∙ late
+        ∙ rules-in-turn (warningsOf (turned s chip counts logs l)) (warning c t) b)
+        ∙ late (record-put (s .logs .traced) (s .records) (begunRecord c t) ea er)
 
 -- The loop: what is left to begin from byte i on is what was to begin from the first.
 pub record Turn (t : ℕ) (bytes : List ℕ) (s₀ s : Controller) (i : ℕ) : Type 0 where

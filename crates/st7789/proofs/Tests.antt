@@ -4,7 +4,7 @@ use mathlib.Core.Path.{_≡_, refl, sym, ap, _∙_}
 use mathlib.Core.Bool.{Bool, true, false, cond, _||_}
 use native.Mathlib.Omega.{arith}
 use borrow.Author.Tests.{eqb-true, ltb-false, not-false}
-use lib.ListN.{getD}
+use lib.ListN.{getD, take}
 use lib.Dec.{eqb}
 use Rattle.lists.specs.Fixed.{used}
 use Rattle.lists.specs.Params.{tooLong}
@@ -17,7 +17,7 @@ use Rattle.pixels.specs.Spans.{spanBad}
 use Rattle.status.specs.Tests.{countsHigh, transferTests}
 use Rattle.st7789.specs.Parts.{traceOf}
 use Rattle.st7789.specs.Data.{noRecord}
-use Rattle.st7789.specs.Refusals.{countBad, currentBad, badState, countHigh, transferRefusal}
+use Rattle.st7789.specs.Refusals.{countBad, currentBad, badState, pixelsHeld, countHigh, transferRefusal}
 use Rattle.st7789.specs.Places.{currentSlot, wrongFor, heldFor, partsBad, judgedFor}
 use Rattle.st7789.specs.Room.{Placed}
 use Rattle.st7789.specs.declared.Controller.{Controller}
@@ -84,29 +84,28 @@ in-turn false false false false false false true true k = refl
 in-turn false false false false false false true false k = refl
 in-turn false false false false false false false r k = refl
 
--- The ways through the tests: x is what was told of the parts.
-module _ (s : Controller) (x : Bool) (ex : x ≡ partsBad (s .chip) (s .stored) (s .marks .dirty) (s .logs)) where
-  turned : badState s ≡ x || (some recordLong (used (traceOf s)) || currentBad (s .logs .current) s)
-  unfolding badState
-  turned =
-      rw ex
-      (in-turn
-      (windowBad (s .chip .window))
-      (pointerBad (s .chip .walk .pointer))
-      (tooLong (s .chip .decoder .params))
-      (some storedLong (s .stored))
-      (countBad (s .logs .traced))
-      (countBad (s .logs .warned))
-      (spanBad (s .marks .dirty))
-      (some recordLong (used (traceOf s)))
-      (currentBad (s .logs .current) s))
+-- The tests in turn: x is what was told of the parts, n how many records were looked at.
+module _
+    (s : Controller) (x : Bool) (ex : x ≡ partsBad (s .chip) (s .stored) (s .marks .dirty) (s .logs)) {n : ℕ}
+    (en : n ≡ cond x 0 (s .logs .traced))
+  where
+    turned : badState s ≡ x || (some recordLong (used (traceOf s)) || currentBad (s .logs .current) s)
+    unfolding badState
+    turned =
+        rw ex
+        (in-turn
+        (windowBad (s .chip .window))
+        (pointerBad (s .chip .walk .pointer))
+        (tooLong (s .chip .decoder .params))
+        (some storedLong (s .stored))
+        (countBad (s .logs .traced))
+        (countBad (s .logs .warned))
+        (spanBad (s .marks .dirty))
+        (some recordLong (used (traceOf s)))
+        (currentBad (s .logs .current) s))
 
-  pub bad-early : x ≡ true → true ≡ badState s
-  bad-early e = sym (turned ∙ ap (λ a. a || (some recordLong (used (traceOf s)) || currentBad (s .logs .current) s)) e)
-
-  module _ (e : x ≡ false) where
-    pub traced-within : s .logs .traced ≤ 128
-    traced-within =
+    traced-within : x ≡ false → s .logs .traced ≤ 128
+    traced-within e =
         let counted = countBad (s .logs .traced) || (countBad (s .logs .warned) || spanBad (s .marks .dirty)) in
         let e1 =
         neither (windowBad (s .chip .window) || (pointerBad (s .chip .walk .pointer) || tooLong (s .chip .decoder .params)))
@@ -115,13 +114,36 @@ module _ (s : Controller) (x : Bool) (ex : x ≡ partsBad (s .chip) (s .stored) 
         let e2 = neither (some storedLong (s .stored)) counted (e1 .1) in
         ltb-false 128 (s .logs .traced) (neither (countBad (s .logs .traced)) (countBad (s .logs .warned) || spanBad (s .marks .dirty)) (e2 .1) .0)
 
-    pub bad-record : true ≡ some recordLong (used (traceOf s)) → true ≡ badState s
-    bad-record h = sym (turned ∙ rw (e, ← h))
+    looked-at : {y : Bool} → x ≡ y → n ≡ cond y 0 (s .logs .traced)
+    looked-at e = en ∙ ap (λ y. cond y 0 (s .logs .traced)) e
 
-    pub bad-late :
-        (at : ℕ) → false ≡ some recordLong (used (traceOf s)) → at ≡ currentSlot (s .logs .current) →
-        wrongFor (s .logs .current) (s .logs .traced) (getD (s .records) at noRecord .params) (s .chip .decoder .params) ≡ badState s
-    bad-late at h ea = wrong-here s (s .logs .current) at traced-within ea ∙ sym (turned ∙ rw (e, ← h))
+    pub few : n ≤ 128
+    few = by-test x refl
+      where
+        by-test : (y : Bool) → x ≡ y → n ≤ 128
+        by-test true e = omega (arith, looked-at e)
+        by-test false e = omega (arith, looked-at e, traced-within e)
+
+    abbrev rest : Bool
+    rest = some recordLong (used (traceOf s)) || currentBad (s .logs .current) s
+
+    abbrev wrongAt : ℕ → Bool
+    wrongAt at = wrongFor (s .logs .current) (s .logs .traced) (getD (s .records) at noRecord .params) (s .chip .decoder .params)
+
+    pub bad-told :
+        {b : Bool} {at : ℕ} → b ≡ x || some recordLong (take n (s .records)) → at ≡ currentSlot (s .logs .current) → b || wrongAt at ≡ badState s
+    bad-told {b} {at} eb ea = by-test x refl
+      where
+        by-test : (y : Bool) → x ≡ y → b || wrongAt at ≡ badState s
+        by-test true e =
+            ap (λ b. b || wrongAt at) (eb ∙ ap (λ x. x || some recordLong (take n (s .records))) e) ∙ sym (turned ∙ ap (λ x. x || rest) e)
+        by-test false e =
+            ap (λ b. b || wrongAt at)
+            (eb
+            ∙ ap (λ x. x || some recordLong (take n (s .records))) e
+            ∙ ap (λ n. some recordLong (take n (s .records))) (looked-at e))
+            ∙ ap (λ w. some recordLong (used (traceOf s)) || w) (wrong-here s (s .logs .current) at (traced-within e) ea)
+            ∙ sym (turned ∙ ap (λ x. x || rest) e)
 
 -- In a state that is not bad the current record is a place of the list.
 placed : (s : Controller) (k : Current) → s .logs .traced ≤ 128 → currentBad k s ≡ false → Placed k
@@ -133,28 +155,24 @@ placed s (At i) h e =
 pub current-placed : (s : Controller) → badState s ≡ false → Placed (s .logs .current)
 current-placed s e = let f = fine s e in placed s (s .logs .current) (ltb-false 128 (s .logs .traced) (f .traced)) (f .current)
 
--- The refusal, where the state is bad and where all tests were made.
-pub refused-bad : (s : Controller) (cells n : ℕ) → true ≡ badState s → 1 ≡ transferRefusal s cells n
-unfolding transferRefusal
-refused-bad s cells n e = ap (λ b. cond b 1 (transferTests cells n (countHigh s))) e
-
-pub refused-late :
-    (s : Controller) (cells n at : ℕ) {x : ℕ} →
-    wrongFor (s .logs .current) (s .logs .traced) (getD (s .records) at noRecord .params) (s .chip .decoder .params) ≡ badState s →
+-- The refusal, from what was told of the state, the record at the current one's place, the counts and the lengths.
+pub refused :
+    (s : Controller) (cells n : ℕ) (b : Bool) {x at : ℕ} →
+    b || wrongFor (s .logs .current) (s .logs .traced) (getD (s .records) at noRecord .params) (s .chip .decoder .params) ≡ badState s →
     at ≡ currentSlot (s .logs .current) →
-    x ≡ judgedFor (s .logs .current) (s .logs .traced) (getD (s .records) at noRecord) (s .chip .decoder .params) (s .counts) cells n →
+    x ≡ judgedFor b (s .logs .current) (s .logs .traced) (getD (s .records) at noRecord) (s .chip .decoder .params) (s .counts) cells n →
     x ≡ transferRefusal s cells n
 unfolding transferRefusal countHigh
-refused-late s cells n at {x} ew ea e = by-test (badState s) refl
+refused s cells n b {x} {at} eb ea e = e ∙ ap (λ b. cond b 1 (held (heldFor (s .logs .current) (getD (s .records) at noRecord .«pixel_bytes»)))) eb ∙ by-test (badState s) refl
   where
     held : ℕ → ℕ
     held m =
         transferTests cells n
         (countsHigh (s .counts .commands) (s .counts .«ramwr_count») (s .counts .«pixels_written») (s .counts .«dropped_params») m)
 
-    by-test : (b : Bool) → badState s ≡ b → x ≡ transferRefusal s cells n
-    by-test true eb = e ∙ ap (λ b. cond b 1 (held (heldFor (s .logs .current) (getD (s .records) at noRecord .«pixel_bytes»)))) (ew ∙ eb) ∙ refused-bad s cells n (sym eb)
-    by-test false eb =
-        e
-        ∙ ap (λ b. cond b 1 (held (heldFor (s .logs .current) (getD (s .records) at noRecord .«pixel_bytes»)))) ew
-        ∙ ap (λ m. cond (badState s) 1 (held m)) (held-here (s .logs .current) (s .records) at (current-placed s eb) ea)
+    by-test :
+        (y : Bool) → badState s ≡ y →
+        cond (badState s) 1 (held (heldFor (s .logs .current) (getD (s .records) at noRecord .«pixel_bytes»))) ≡
+        cond (badState s) 1 (held (pixelsHeld (s .logs .current) (s .records)))
+    by-test true e = rw e
+    by-test false e = ap (λ m. cond (badState s) 1 (held m)) (held-here (s .logs .current) (s .records) at (current-placed s e) ea)

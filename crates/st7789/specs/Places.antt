@@ -48,10 +48,10 @@ partsBad chip stored dirty logs =
     (windowBad (chip .window) || (pointerBad (chip .walk .pointer) || tooLong (chip .decoder .params))) ||
     (some storedLong stored || (countBad (logs .traced) || (countBad (logs .warned) || spanBad dirty)))
 
--- The refusal of a transfer by the record r that stands at the current one's place, by counts and by lengths.
-abbrev pub judgedFor : Current → ℕ → TraceRecord → Params → Counts → ℕ → ℕ → ℕ
-judgedFor k n r q counts cells bytes =
-    cond (wrongFor k n (r .params) q) 1
+-- The refusal of a transfer where the rest of the state is bad or not, by the record r that stands at the current one's place, by counts and by lengths.
+abbrev pub judgedFor : Bool → Current → ℕ → TraceRecord → Params → Counts → ℕ → ℕ → ℕ
+judgedFor bad k n r q counts cells bytes =
+    cond (bad || wrongFor k n (r .params) q) 1
     (transferTests cells bytes
     (countsHigh (counts .commands) (counts .«ramwr_count») (counts .«pixels_written») (counts .«dropped_params»)
     (heldFor k (r .«pixel_bytes»))))

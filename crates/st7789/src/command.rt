@@ -66,11 +66,11 @@ fn begun_record(traced: u8, c: u8, t: u64, old: TraceRecord) -> TraceRecord
     old
 }
 
-// Whether there is a warning to keep, and room for one.
-fn loud(broken: Broken, warned: u8) -> bool
-    ensures { λ r. ⌜ r ≡ (ltb warned 128 && (broken .rule1 || (broken .rule2 || broken .rule3))) ⌝ }
+// Whether there is room for a record, or a warning to keep and room for one.
+fn to_list(traced: u8, warned: u8, broken: Broken) -> bool
+    ensures { λ r. ⌜ r ≡ (ltb traced 128 || (ltb warned 128 && (broken .rule1 || (broken .rule2 || broken .rule3)))) ⌝ }
 {
-    (warned < 128) & (broken.rule1 | (broken.rule2 | broken.rule3))
+    (traced < 128) | ((warned < 128) & (broken.rule1 | (broken.rule2 | broken.rule3)))
 }
 
 // The warning of a broken rule, or what stands at its place where the rule is kept or there is no room.
@@ -114,13 +114,14 @@ impl Controller {
             let c = bytes[i];
             i += 1;
             let broken = timing::lint(chip.times, chip.registers.colmod, c, t);
-            let at = slot(logs.traced);
-            let record = begun_record(logs.traced, c, t, self.records[at]);
-            self.records[at] = record;
             chip = chip.begin(c, t);
             counts = counts.begin(c);
+            let traced = logs.traced;
             logs = logs.begin();
-            if loud(broken, logs.warned) {
+            if to_list(traced, logs.warned, broken) {
+                let at = slot(traced);
+                let record = begun_record(traced, c, t, self.records[at]);
+                self.records[at] = record;
                 let n1 = logs.warned;
                 let at1 = slot(n1);
                 let w1 = warning_at(broken.rule1, n1, 1, c, t, self.warnings[at1]);
@@ -155,7 +156,6 @@ impl Controller {
             };
             self.chip = chip;
             self.logs = logs;
-            return self;
         }
         self
     }

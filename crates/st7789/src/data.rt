@@ -5,8 +5,8 @@ ghost use Prim.Native.Nat.{_<_};
 ghost use lib.ListN.{length};
 ghost use lib.Dec.{ltb};
 ghost use Rattle.lists.specs.Entries.{placeOf};
-ghost use Rattle.pixels.specs.Run.{stores, written};
-ghost use Rattle.st7789.specs.Data.{ran, taken, dataIn, storesIn};
+ghost use Rattle.pixels.specs.Run.{written};
+ghost use Rattle.st7789.specs.Data.{dataIn, storesIn};
 ghost use Rattle.st7789.specs.Room.{Room};
 use crate::Controller;
 use crate::Marks;
@@ -43,67 +43,54 @@ fn stored_entry(c: u8, params: Params, old: Stored) -> Stored
 }
 
 impl Controller {
-    fn write_pixels(mut self, bytes: &[u8], memory: &mut [u16]) -> Controller
-        requires { ⌜ Room (length (now bytes)) self ⌝ }
-        ensures { λ r. ⌜ r ≡ ran (now (bytes .entry)) self ⌝ }
-        ensures { λ r. ⌜ now (memory .exit) ≡ written (now (memory .entry)) (stores (self .chip .window) (self .chip .registers .madctl) (self .chip .walk) (now (bytes .entry))) ⌝ }
-    {
-        let mut chip = self.chip;
-        let marks = self.marks;
-        let dirty = marks.dirty;
-        let run = engine::write_pixels(
-            chip.window,
-            chip.registers.madctl,
-            chip.walk,
-            dirty,
-            bytes,
-            memory,
-        );
-        let walk = run.walk;
-        let dirty = run.dirty;
-        let marks = Marks { dirty };
-        let at = place(self.logs);
-        let record = grown(self.logs, self.records[at], bytes.len() as u64);
-        chip.walk = walk;
-        self.chip = chip;
-        self.counts.pixels_written = self.counts.pixels_written + run.pixels;
-        self.marks = marks;
-        self.records[at] = record;
-        self
-    }
-
-    fn take_params(mut self, c: u8, bytes: &[u8]) -> Controller
-        requires { ⌜ Room (length (now bytes)) self ⌝ }
-        ensures { λ r. ⌜ r ≡ taken c (now (bytes .entry)) self ⌝ }
-    {
-        let params = self.chip.decoder.params;
-        let lost = params.excess(bytes.len());
-        let list = params.append(bytes);
-        let chip = self.chip.take(c, bytes);
-        let at = place(self.logs);
-        let record = noted(self.logs, self.records[at], bytes);
-        let slot = stored_slot(c);
-        let entry = stored_entry(c, list, self.stored[slot]);
-        self.chip = chip;
-        self.counts.dropped_params = self.counts.dropped_params + lost;
-        self.records[at] = record;
-        self.stored[slot] = entry;
-        self
-    }
-
-    pub(crate) fn data(self, bytes: &[u8], memory: &mut [u16]) -> Controller
+    // Pixels in a run, parameters for a command in force, or lost. What changes is stored in place.
+    pub(crate) fn data(mut self, bytes: &[u8], memory: &mut [u16]) -> Controller
         requires { ⌜ Room (length (now bytes)) self ⌝ }
         ensures { λ r. ⌜ r ≡ dataIn (now (bytes .entry)) self ⌝ }
         ensures { λ r. ⌜ now (memory .exit) ≡ written (now (memory .entry)) (storesIn true (now (bytes .entry)) self) ⌝ }
     {
-        if self.chip.decoder.in_pixels {
-            return self.write_pixels(bytes, memory);
+        let mut chip = self.chip;
+        let decoder = chip.decoder;
+        let at = place(self.logs);
+        if decoder.in_pixels {
+            let marks = self.marks;
+            let dirty = marks.dirty;
+            let run = engine::write_pixels(
+                chip.window,
+                chip.registers.madctl,
+                chip.walk,
+                dirty,
+                bytes,
+                memory,
+            );
+            let walk = run.walk;
+            let dirty = run.dirty;
+            let marks = Marks { dirty };
+            let record = grown(self.logs, self.records[at], bytes.len() as u64);
+            chip.walk = walk;
+            self.chip = chip;
+            self.counts.pixels_written = self.counts.pixels_written + run.pixels;
+            self.marks = marks;
+            self.records[at] = record;
+        } else {
+            let cmd = decoder.cmd;
+            match cmd {
+                InForce::Nothing => {}
+                InForce::Code(c) => {
+                    let params = decoder.params;
+                    let lost = params.excess(bytes.len());
+                    let list = params.append(bytes);
+                    let taken = chip.take(c, bytes);
+                    let record = noted(self.logs, self.records[at], bytes);
+                    let slot = stored_slot(c);
+                    let entry = stored_entry(c, list, self.stored[slot]);
+                    self.chip = taken;
+                    self.counts.dropped_params = self.counts.dropped_params + lost;
+                    self.records[at] = record;
+                    self.stored[slot] = entry;
+                }
+            }
         }
-        let decoder = self.chip.decoder;
-        let cmd = decoder.cmd;
-        match cmd {
-            InForce::Nothing => self,
-            InForce::Code(c) => self.take_params(c, bytes),
-        }
+        self
     }
 }

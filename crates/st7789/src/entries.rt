@@ -3,9 +3,8 @@ ghost use mathlib.Core.Path.{_≡_};
 ghost use lib.ListN.{length};
 ghost use Rattle.pixels.specs.Run.{written};
 ghost use Rattle.st7789.specs.Data.{storesIn};
-ghost use Rattle.st7789.specs.Entries.{freshController, moved, transferred, transferMemory, bareTransferred, resetState, resetMemory, newMemory};
+ghost use Rattle.st7789.specs.Entries.{freshController, transferred, transferMemory, bareTransferred, resetState, resetMemory, newMemory};
 ghost use Rattle.st7789.specs.Refusals.{transferRefusal, bareRefusal};
-ghost use Rattle.st7789.specs.Room.{Room};
 ghost use Rattle.status.specs.Numbers.{number, unlessRefused};
 ghost use Rattle.status.specs.Tests.{memoryRefusal};
 use crate::Answer;
@@ -13,34 +12,13 @@ use crate::Controller;
 use crate::current::place;
 use crate::refusals::judged;
 use crate::refusals::parts_bad;
-use crate::wide;
+use crate::refusals::scanned;
 use board::BoardDomain;
 use status::PANEL_PIXELS;
 use status::Status;
 use status::accepted;
 
 impl Controller {
-    // What an accepted transfer does, over memory of any length.
-    fn decode(
-        self,
-        t: u64,
-        dc: bool,
-        bytes: &[u8],
-        cs_release: bool,
-        memory: &mut [u16],
-    ) -> Controller
-        requires { ⌜ Room (length (now bytes)) self ⌝ }
-        ensures { λ r. ⌜ r ≡ moved t dc (now (bytes .entry)) «cs_release» self ⌝ }
-        ensures { λ r. ⌜ now (memory .exit) ≡ written (now (memory .entry)) (storesIn dc (now (bytes .entry)) self) ⌝ }
-    {
-        if dc {
-            let after = self.data(bytes, memory);
-            return after.release(cs_release);
-        }
-        let after = self.begin_commands(t, bytes);
-        after.release(cs_release)
-    }
-
     // The tests, and what the transfer does where none of them refuses. So much memory counts as lent.
     fn carried(
         self,
@@ -55,26 +33,17 @@ impl Controller {
         ensures { λ r. ⌜ r .controller ≡ transferred t dc (now (bytes .entry)) «cs_release» cells self ⌝ }
         ensures { λ r. ⌜ now (memory .exit) ≡ unlessRefused (transferRefusal self cells (length (now (bytes .entry)))) (written (now (memory .entry)) (storesIn dc (now (bytes .entry)) self)) (now (memory .entry)) ⌝ }
     {
-        if parts_bad(self.chip, self.stored, self.marks, self.logs) {
-            return Answer {
-                controller: self,
-                status: Status::BadState,
-            };
-        }
-        let n = wide(self.logs.traced);
+        let mut bad = parts_bad(self.chip, self.stored, self.marks, self.logs);
+        let n = scanned(bad, self.logs.traced);
         let mut i = 0;
         while i < n {
-            if self.records[i].params.count > 14 {
-                return Answer {
-                    controller: self,
-                    status: Status::BadState,
-                };
-            }
+            bad = bad | (self.records[i].params.count > 14);
             i += 1;
         }
         let at = place(self.logs);
         let record = self.records[at];
         let status = judged(
+            bad,
             self.logs,
             record,
             self.chip.decoder.params,
@@ -83,7 +52,13 @@ impl Controller {
             bytes.len(),
         );
         if accepted(status) {
-            let controller = self.decode(t, dc, bytes, cs_release, memory);
+            if dc {
+                let after = self.data(bytes, memory);
+                let controller = after.release(cs_release);
+                return Answer { controller, status };
+            }
+            let after = self.begin_commands(t, bytes);
+            let controller = after.release(cs_release);
             return Answer { controller, status };
         }
         Answer {

@@ -1,6 +1,6 @@
 // The refusal tests, in 01's order.
 ghost use mathlib.Core.Path.{_≡_};
-ghost use mathlib.Core.Bool.{_||_};
+ghost use mathlib.Core.Bool.{cond, _||_};
 ghost use Rattle.geometry.specs.Bounds.{windowBad, pointerBad};
 ghost use Rattle.lists.specs.Params.{tooLong};
 ghost use Rattle.st7789.specs.Refusals.{badState};
@@ -39,8 +39,19 @@ pub(crate) fn parts_bad(chip: Chip, stored: [Stored; 12], marks: Marks, logs: Lo
     bad | (long | ((logs.traced > 128) | ((logs.warned > 128) | span)))
 }
 
-// The tests of a transfer that look at the current record, and those that come after BAD_STATE.
+// How many records to look at: none where the state is bad already.
+pub(crate) fn scanned(bad: bool, traced: u8) -> usize
+    ensures { λ r. ⌜ r ≡ cond bad 0 traced ⌝ }
+{
+    if bad {
+        return 0;
+    }
+    wide(traced)
+}
+
+// The tests of a transfer but for those of parts and records, which told `bad`.
 pub(crate) fn judged(
+    bad: bool,
     logs: Logs,
     record: TraceRecord,
     in_force: Params,
@@ -48,9 +59,10 @@ pub(crate) fn judged(
     cells: usize,
     bytes: usize,
 ) -> Status
-    ensures { λ r. ⌜ number r ≡ judgedFor (logs .current) (logs .traced) «record» «in_force» counts cells bytes ⌝ }
+    ensures { λ r. ⌜ number r ≡ judgedFor bad (logs .current) (logs .traced) «record» «in_force» counts cells bytes ⌝ }
 {
-    if current_bad(logs, record.params, in_force) {
+    let wrong = current_bad(logs, record.params, in_force);
+    if bad | wrong {
         return Status::BadState;
     }
     let high = status::counts_high(
@@ -68,19 +80,16 @@ impl Controller {
     pub fn bad_state(self) -> bool
         ensures answer { λ r. ⌜ r ≡ badState self ⌝ }
     {
-        if parts_bad(self.chip, self.stored, self.marks, self.logs) {
-            return true;
-        }
-        let n = wide(self.logs.traced);
+        let mut bad = parts_bad(self.chip, self.stored, self.marks, self.logs);
+        let n = scanned(bad, self.logs.traced);
         let mut i = 0;
         while i < n {
-            if self.records[i].params.count > 14 {
-                return true;
-            }
+            bad = bad | (self.records[i].params.count > 14);
             i += 1;
         }
         let at = place(self.logs);
         let record = self.records[at];
-        current_bad(self.logs, record.params, self.chip.decoder.params)
+        let wrong = current_bad(self.logs, record.params, self.chip.decoder.params);
+        bad | wrong
     }
 }

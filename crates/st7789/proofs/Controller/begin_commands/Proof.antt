@@ -25,6 +25,18 @@ add-i c = search needs
 lint-requires : tie.Need-lint-requires Inv-loop μ-loop
 lint-requires c κs = search needs
 
+begin-requires : tie.Need-begin-requires Inv-loop μ-loop
+begin-requires c κs = search needs
+
+begin-requires-2 : tie.Need-begin-requires-2 Inv-loop μ-loop
+begin-requires-2 c κs = let u = c .before .before .before .before .loop .inv in (omega (arith, u .commands, c .before .before .before .loop-test .taken), omega (arith, u .ramwrs, c .before .before .before .loop-test .taken))
+
+begin-requires-3 : tie.Need-begin-requires-3 Inv-loop μ-loop
+begin-requires-3 c κs = search needs
+
+to-list-requires : tie.Need-to-list-requires Inv-loop μ-loop
+to-list-requires c κs = search needs
+
 slot-requires : tie.Need-slot-requires Inv-loop μ-loop
 slot-requires c κs = search needs
 
@@ -42,18 +54,6 @@ mul-record c = search needs
 
 element-set-from-record : tie.Need-element-set-from-record Inv-loop μ-loop
 element-set-from-record c = search needs
-
-begin-requires : tie.Need-begin-requires Inv-loop μ-loop
-begin-requires c κs = search needs
-
-begin-requires-2 : tie.Need-begin-requires-2 Inv-loop μ-loop
-begin-requires-2 c κs = let u = c .before .before .before .before .before .before .before .loop .inv in (omega (arith, u .commands, c .before .before .before .before .before .before .loop-test .taken), omega (arith, u .ramwrs, c .before .before .before .before .before .before .loop-test .taken))
-
-begin-requires-3 : tie.Need-begin-requires-3 Inv-loop μ-loop
-begin-requires-3 c κs = search needs
-
-loud-requires : tie.Need-loud-requires Inv-loop μ-loop
-loud-requires c κs = search needs
 
 slot-requires-2 : tie.Need-slot-requires-2 Inv-loop μ-loop
 slot-requires-2 c κs = search needs
@@ -122,13 +122,13 @@ loop-less : tie.Need-loop-less Inv-loop μ-loop
 loop-less c = omega (arith, c .before .before .before .before .before .before .before .before .before .before .before .before .before .before .before .before .before .before .before .before .before .before .loop-test .taken)
 
 loop-again : tie.Need-loop-again Inv-loop μ-loop
-loop-again c = let l = c .before .before .before .before .before .before .before .before .before .before .before .before .before .before .before .before .before .before .before .before .before .before .before .loop in turn-next (l .inv) (c .before .before .before .before .before .before .before .before .before .before .before .before .before .before .before .before .before .before .before .before .before .before .loop-test .taken) (loud-turn _ _ (put (l .self) (l .chip) (l .counts) (l .logs)) (c .before .before .before .before .before .before .before .before .before .before .before .before .before .before .before .before .before .before .before .before .lint .ensures) (c .before .before .before .before .before .before .before .before .before .before .before .before .before .before .before .before .before .before .before .slot .ensures .0) (c .before .before .before .before .before .before .before .before .before .before .before .before .before .before .before .before .before .begun-record .ensures) (c .before .before .before .before .before .before .before .before .before .before .before .before .before .before .before .before .begin .ensures) (c .before .before .before .before .before .before .before .before .before .before .before .before .before .before .before .begin2 .ensures) (c .before .before .before .before .before .before .before .before .before .before .before .before .before .before .begin3 .ensures) (c .before .before .before .before .before .before .before .before .before .before .before .slot2 .ensures .0) (c .before .before .before .before .before .before .before .before .before .warning-at .ensures) (c .before .before .before .before .before .before .before .before .one-more .ensures) (c .before .before .before .before .before .before .before .slot3 .ensures .0) (c .before .before .before .before .before .warning-at2 .ensures) (c .before .before .before .before .one-more2 .ensures) (c .before .before .before .slot4 .ensures .0) (c .before .warning-at3 .ensures) (c .one-more3 .ensures))
+loop-again c = let l = c .before .before .before .before .before .before .before .before .before .before .before .before .before .before .before .before .before .before .before .before .before .before .before .loop in turn-next (l .inv) (c .before .before .before .before .before .before .before .before .before .before .before .before .before .before .before .before .before .before .before .before .before .before .loop-test .taken) (loud-turn _ _ (put (l .self) (l .chip) (l .counts) (l .logs)) (c .before .before .before .before .before .before .before .before .before .before .before .before .before .before .before .before .before .before .before .before .lint .ensures) (c .before .before .before .before .before .before .before .before .before .before .before .before .before .before .before .before .before .before .before .begin .ensures) (c .before .before .before .before .before .before .before .before .before .before .before .before .before .before .before .before .before .before .begin2 .ensures) (c .before .before .before .before .before .before .before .before .before .before .before .before .before .before .before .before .before .begin3 .ensures) (c .before .before .before .before .before .before .before .before .before .before .before .before .before .before .slot .ensures .0) (c .before .before .before .before .before .before .before .before .before .before .before .before .begun-record .ensures) (c .before .before .before .before .before .before .before .before .before .before .before .slot2 .ensures .0) (c .before .before .before .before .before .before .before .before .before .warning-at .ensures) (c .before .before .before .before .before .before .before .before .one-more .ensures) (c .before .before .before .before .before .before .before .slot3 .ensures .0) (c .before .before .before .before .before .warning-at2 .ensures) (c .before .before .before .before .one-more2 .ensures) (c .before .before .before .slot4 .ensures .0) (c .before .warning-at3 .ensures) (c .one-more3 .ensures))
 
 loop-less-2 : tie.Need-loop-less-2 Inv-loop μ-loop
-loop-less-2 c = omega (arith, c .before .before .before .before .before .before .before .before .before .before .loop-test .taken)
+loop-less-2 c = omega (arith, c .before .before .before .before .before .before .before .loop-test .taken)
 
 loop-again-2 : tie.Need-loop-again-2 Inv-loop μ-loop
-loop-again-2 c = let l = c .before .before .before .before .before .before .before .before .before .before .before .loop in turn-next (l .inv) (c .before .before .before .before .before .before .before .before .before .before .loop-test .taken) (quiet-turn _ _ (put (l .self) (l .chip) (l .counts) (l .logs)) (c .before .before .before .before .before .before .before .before .lint .ensures) (c .before .before .before .before .before .before .before .slot .ensures .0) (c .before .before .before .before .before .begun-record .ensures) (c .before .before .before .before .begin .ensures) (c .before .before .before .begin2 .ensures) (c .before .before .begin3 .ensures) (sym (c .before .loud .ensures) ∙ c .if1 .left))
+loop-again-2 c = let l = c .before .before .before .before .before .before .before .before .loop in turn-next (l .inv) (c .before .before .before .before .before .before .before .loop-test .taken) (quiet-turn _ _ (put (l .self) (l .chip) (l .counts) (l .logs)) (c .before .before .before .before .before .lint .ensures) (c .before .before .before .before .begin .ensures) (c .before .before .before .begin2 .ensures) (c .before .before .begin3 .ensures) (sym (c .before .to-list .ensures) ∙ c .if1 .left))
 
 returns : tie.Need-returns Inv-loop μ-loop
 returns c = turn-last (c .before .loop .inv) (c .loop-test .left)
@@ -143,16 +143,16 @@ begin-commands-spec =
     shared-slice-read-c
     add-i
     lint-requires
+    begin-requires
+    begin-requires-2
+    begin-requires-3
+    to-list-requires
     slot-requires
     mul-begun-record
     element-copy-out-begun-record
     begun-record-requires
     mul-record
     element-set-from-record
-    begin-requires
-    begin-requires-2
-    begin-requires-3
-    loud-requires
     slot-requires-2
     mul-warning-at
     element-copy-out-warning-at

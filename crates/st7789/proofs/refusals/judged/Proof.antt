@@ -1,4 +1,5 @@
-use mathlib.Core.Path.{sym, _∙_}
+use mathlib.Core.Path.{sym, ap, _∙_}
+use mathlib.Core.Bool.{_||_}
 use borrow.Author.Needs.{needs}
 use Rattle.st7789.proofs.refusals.judged.Statement.{statement}
 use Rattle.st7789.proofs.refusals.judged.Tie as tie
@@ -7,7 +8,7 @@ current-bad-requires : tie.Need-current-bad-requires
 current-bad-requires c κs = search needs
 
 returns : tie.Need-returns
-returns c = simp (sym (c .before .current-bad .ensures) ∙ c .if1 .taken)
+returns c = simp (ap (λ w. c .before .before .args .bad || w) (sym (c .before .current-bad .ensures)) ∙ c .if1 .taken)
 
 held-requires : tie.Need-held-requires
 held-requires c κs = search needs
@@ -19,7 +20,7 @@ transfer-status-requires : tie.Need-transfer-status-requires
 transfer-status-requires c κs = search needs
 
 returns-2 : tie.Need-returns-2
-returns-2 c = simp (sym (c .before .before .before .before .current-bad .ensures) ∙ c .before .before .before .if1 .left, c .transfer-status .ensures, c .before .counts-high .ensures, c .before .before .held .ensures)
+returns-2 c = simp (ap (λ w. c .before .before .before .before .before .args .bad || w) (sym (c .before .before .before .before .current-bad .ensures)) ∙ c .before .before .before .if1 .left, c .transfer-status .ensures, c .before .counts-high .ensures, c .before .before .held .ensures)
 
 pub judged-spec : {M : Type 1} → statement M
 judged-spec =

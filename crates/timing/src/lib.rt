@@ -1,9 +1,6 @@
 // The timing lint: what the firmware did too early. Warnings only, never enforced. Times are nanoseconds.
 ghost use mathlib.Core.Path.{_≡_};
-ghost use mathlib.Core.Bool.{cond, _||_};
 ghost use Prim.Native.Nat.{_-_};
-ghost use lib.Dec.{eqb};
-ghost use Rattle.timing.specs.declared.Moment.the-variants.{At};
 ghost use Rattle.timing.specs.Lint.{soonAfter, breaks1, breaks2, breaks3, brokenBy, freshTimes, timesAfter};
 
 const SLPOUT_SETTLE: u64 = 5_000_000;
@@ -57,9 +54,11 @@ fn sleep_cycle_too_fast(times: Times, c: u8, t: u64) -> bool
     ensures { λ r. ⌜ r ≡ breaks2 times c t ⌝ }
 {
     let slpout = times.slpout;
-    let woken = soon_after(slpout, t, SLEEP_CYCLE);
-    let asleep = soon_after(Moment::At(times.slpin), t, SLEEP_CYCLE);
-    ((c == 0x10) & woken) | ((c == 0x11) & asleep)
+    match c {
+        0x10 => soon_after(slpout, t, SLEEP_CYCLE),
+        0x11 => soon_after(Moment::At(times.slpin), t, SLEEP_CYCLE),
+        _ => false,
+    }
 }
 
 // RAMWR or RAMWRC while COLMOD is not 16 bits a pixel.
@@ -83,28 +82,15 @@ pub fn lint(times: Times, colmod: u8, c: u8, t: u64) -> Broken
 }
 
 impl Moment {
-    // The last SLPOUT after command c. The old one is made anew: as a copy it would take its padding along, which is slow in a long segment.
-    fn after(self, c: u8, t: u64) -> Moment
-        ensures { λ r. ⌜ r ≡ cond (eqb c 0x11) (At t) self ⌝ }
+    // The same moment, made anew. A copy would take its padding along, and a long segment of commands would wait for that at each of them.
+    fn anew(self) -> Moment
+        ensures { λ r. ⌜ r ≡ self ⌝ }
     {
-        if c == 0x11 {
-            return Moment::At(t);
-        }
         match self {
             Moment::Never => Moment::Never,
             Moment::At(at) => Moment::At(at),
         }
     }
-}
-
-// The last sleep-in after command c.
-fn slpin_after(slpin: u64, c: u8, t: u64) -> u64
-    ensures { λ r. ⌜ r ≡ cond (eqb c 0x10 || eqb c 0x01) t slpin ⌝ }
-{
-    if (c == 0x10) | (c == 0x01) {
-        return t;
-    }
-    slpin
 }
 
 impl Times {
@@ -122,10 +108,17 @@ impl Times {
         ensures answer { λ r. ⌜ r ≡ timesAfter self c t ⌝ }
     {
         let old = self.slpout;
-        let slpout = old.after(c, t);
-        Times {
-            slpout,
-            slpin: slpin_after(self.slpin, c, t),
+        let slpout = old.anew();
+        match c {
+            0x11 => Times {
+                slpout: Moment::At(t),
+                slpin: self.slpin,
+            },
+            0x01 | 0x10 => Times { slpout, slpin: t },
+            _ => Times {
+                slpout,
+                slpin: self.slpin,
+            },
         }
     }
 }

@@ -1,11 +1,11 @@
--- The ways out of `publish`.
-use Prim.Native.Nat.{ℕ, suc, _≤_, _<_}
+-- What `publish` answers, by the number of its refusal.
+use Prim.Native.Nat.{ℕ, _≤_, _<_}
 use mathlib.Core.Path.{_≡_, refl, sym, ap, _∙_}
-use mathlib.Core.Bool.{true, false}
+use mathlib.Core.Bool.{Bool, true, false, cond, not}
 use mathlib.Core.List.{List}
 use native.Mathlib.Omega.{arith}
-use borrow.Author.Tests.{eq-eqb, ne-eqb, ltb-false}
-use lib.Dec.{ltb, eqb·suc-zero}
+use borrow.Author.Tests.{eq-eqb, eqb-true, ltb-false}
+use lib.Dec.{ltb, eqb}
 use Rattle.pixels.specs.declared.Span.{Span}
 use Rattle.pixels.specs.declared.Span.the-variants.{Nothing, Rows}
 use Rattle.lists.proofs.Bools.{neither}
@@ -16,6 +16,7 @@ use Rattle.status.specs.Numbers.{number}
 use Rattle.status.specs.declared.Status.{Status}
 use Rattle.st7789.specs.declared.Controller.{Controller}
 use Rattle.st7789.proofs.Tests.{fine}
+use Rattle.views.specs.Views.{frameRefusal}
 use Rattle.publishing.specs.Publish.{copied, spanCopied, publishRefusal, flagsOf, noFlags, publishedSpan, publishedFlags, published, publishedFrame}
 use Rattle.publishing.specs.declared.Flags.{Flags}
 use Rattle.publishing.specs.declared.Published.{Published}
@@ -33,27 +34,36 @@ pub span-copied :
     out ≡ copied a b memory frame → out ≡ spanCopied span memory frame
 span-copied memory frame e ea eb eo = eo ∙ rw (ea, eb, e)
 
-pub span-fine : (s : Controller) → badState s ≡ false → spanBad (s .marks .dirty) ≡ false
-span-fine s e = fine s e .span
-
 -- The number that is given.
 module _ (s : Controller) (cells room : ℕ) where
-  pub bad : badState s ≡ true → publishRefusal s cells room ≡ 1
+  pub number-told : {bad : Bool} {n : ℕ} → bad ≡ badState s → n ≡ cond bad 1 (frameRefusal cells room) → n ≡ publishRefusal s cells room
   unfolding publishRefusal
-  bad e = rw e
+  number-told e h = h ∙ ap (λ b. cond b 1 (frameRefusal cells room)) e
 
-  module _ (e : badState s ≡ false) where
-    pub bad-cells : (cells ≡ 76800 → ⊥) → publishRefusal s cells room ≡ 2
-    unfolding publishRefusal
-    bad-cells h = rw (e, ne-eqb cells 76800 h)
+  pub none-bad : badState s ≡ false → cells ≡ 76800 → room ≡ 76800 → publishRefusal s cells room ≡ 0
+  unfolding publishRefusal
+  none-bad e m h = rw (e, eq-eqb cells 76800 m, eq-eqb room 76800 h)
 
-    pub bad-room : cells ≡ 76800 → (room ≡ 76800 → ⊥) → publishRefusal s cells room ≡ 3
-    unfolding publishRefusal
-    bad-room m h = rw (e, eq-eqb cells 76800 m, ne-eqb room 76800 h)
+  none-refused : publishRefusal s cells room ≡ 0 → (badState s ≡ false) × ((cells ≡ 76800) × (room ≡ 76800))
+  unfolding publishRefusal
+  none-refused = go (badState s) (eqb cells 76800) (eqb room 76800) refl refl refl
+    where
+      go :
+          (b c r : Bool) → badState s ≡ b → eqb cells 76800 ≡ c → eqb room 76800 ≡ r → _≡_ {A = ℕ} (cond b 1 (cond (not c) 2 (cond (not r) 3 0))) 0 →
+          (badState s ≡ false) × ((cells ≡ 76800) × (room ≡ 76800))
+      go true c r eb ec er e = absurd (omega arith)
+      go false false r eb ec er e = absurd (omega arith)
+      go false true false eb ec er e = absurd (omega arith)
+      go false true true eb ec er e = (eb, (eqb-true cells 76800 ec, eqb-true room 76800 er))
 
-    pub none-bad : cells ≡ 76800 → room ≡ 76800 → publishRefusal s cells room ≡ 0
-    unfolding publishRefusal
-    none-bad m h = rw (e, eq-eqb cells 76800 m, eq-eqb room 76800 h)
+  -- Rows are copied only where nothing was refused.
+  pub span-ready :
+      (go : Bool) {n : ℕ} {span : Span} → n ≡ publishRefusal s cells room → go ≡ eqb n 0 → span ≡ cond go (s .marks .dirty) Nothing →
+      (spanBad span ≡ false) × ((first last : ℕ) → span ≡ Rows first last → (cells ≡ 76800) × (room ≡ 76800))
+  span-ready true {n} en eg es =
+      let t = none-refused (sym en ∙ eqb-true n 0 (sym eg)) in
+      (ap spanBad es ∙ fine s (t .0) .span, λ first last e. t .1)
+  span-ready false en eg es = (ap spanBad es, λ first last e. let z : _≡_ {A = ℕ} 0 1 = cc in omega arith)
 
 -- Every clause at once, by the number.
 abbrev Clauses : ℕ → Controller → List ℕ → List ℕ → Published → List ℕ → Type 0
@@ -61,15 +71,13 @@ Clauses n s memory frame r out =
     (number (r .status) ≡ n) ×
     ((r .controller ≡ published n s) × ((r .span ≡ publishedSpan n s) × ((r .flags ≡ publishedFlags n s) × (out ≡ publishedFrame n s memory frame))))
 
-module _ (s : Controller) (memory frame : List ℕ) where
-  pub all-kept :
-      (n k : ℕ) (status : Status) (r : Published) → n ≡ suc k → number status ≡ suc k →
-      r ≡ record { controller = s; span = Nothing; flags = noFlags; status = status } → Clauses n s memory frame r frame
-  unfolding published publishedSpan publishedFlags publishedFrame
-  all-kept n k status r en es er = rw (er, en, eqb·suc-zero k) (es, (refl, (refl, (refl, refl))))
-
-  pub all-given :
-      (n : ℕ) (status : Status) (flags : Flags) (out : List ℕ) → n ≡ 0 → number status ≡ 0 → flags ≡ flagsOf s → out ≡ spanCopied (s .marks .dirty) memory frame →
-      Clauses n s memory frame (record { controller = withDirty Nothing s; span = s .marks .dirty; flags = flags; status = status }) out
-  unfolding published publishedSpan publishedFlags publishedFrame
-  all-given n status flags out en es ef eo = rw en (es, (refl, (refl, (ef, eo))))
+pub all-told :
+    (s : Controller) (memory frame : List ℕ) (status : Status) (go : Bool) {n : ℕ} {span left : Span} {flags : Flags} {out : List ℕ} →
+    number status ≡ n → go ≡ eqb n 0 → span ≡ cond go (s .marks .dirty) Nothing → left ≡ cond (not go) (s .marks .dirty) Nothing →
+    flags ≡ cond go (flagsOf s) noFlags → out ≡ spanCopied span memory frame →
+    Clauses n s memory frame (record { controller = withDirty left s; span = span; flags = flags; status = status }) out
+unfolding published publishedSpan publishedFlags publishedFrame
+all-told s memory frame status true en eg es el ef eo =
+    rw (← eg) (en, (ap (λ p. withDirty p s) el, (es, (ef, eo ∙ ap (λ p. spanCopied p memory frame) es))))
+all-told s memory frame status false en eg es el ef eo =
+    rw (← eg) (en, (ap (λ p. withDirty p s) el, (es, (ef, eo ∙ ap (λ p. spanCopied p memory frame) es))))

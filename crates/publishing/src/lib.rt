@@ -1,12 +1,16 @@
 // Publishing: the rows of the span copied to the frame, one row at a time, and the flags beside them.
 ghost use mathlib.Core.Path.{_≡_};
-ghost use Prim.Native.Nat.{_+_, _*_, _≤_, _<_};
+ghost use Prim.Native.Nat.{ℕ, _+_, _*_, _≤_, _<_};
 ghost use lib.ListN.{length};
-ghost use mathlib.Core.Bool.{false};
-ghost use Rattle.pixels.specs.declared.Span.the-variants.{Nothing};
+ghost use mathlib.Core.Bool.{false, cond};
+ghost use Rattle.pixels.specs.declared.Span.the-variants.{Nothing, Rows};
 ghost use Rattle.pixels.specs.Spans.{spanBad};
 ghost use Rattle.status.specs.Numbers.{number};
-ghost use Rattle.publishing.specs.Publish.{copied, spanCopied, publishRefusal, flagsOf, noFlags, publishedSpan, publishedFlags, published, publishedFrame};
+ghost use Rattle.views.specs.Views.{frameRefusal};
+ghost use Rattle.publishing.specs.Publish.{copied, spanCopied, publishRefusal, noFlags, publishedSpan, publishedFlags, published, publishedFrame};
+use board::PanelConfig;
+use board::Power;
+use chip::Registers;
 use pixels::Span;
 use st7789::Controller;
 use st7789::Marks;
@@ -64,7 +68,7 @@ fn copy_rows(first: usize, last: usize, memory: &[u16], frame: &mut [u16])
 
 fn copy_span(span: Span, memory: &[u16], frame: &mut [u16])
     requires { ⌜ spanBad span ≡ false ⌝ }
-    requires { ⌜ (length (now memory) ≡ 76800) × (length (now frame) ≡ 76800) ⌝ }
+    requires { ⌜ ((first last : ℕ) → span ≡ Rows first last → (length (now memory) ≡ 76800) × (length (now frame) ≡ 76800)) ⌝ }
     ensures { λ r. ⌜ now (frame .exit) ≡ spanCopied span (now (memory .entry)) (now (frame .entry)) ⌝ }
 {
     match span {
@@ -73,44 +77,58 @@ fn copy_span(span: Span, memory: &[u16], frame: &mut [u16])
     }
 }
 
-fn flags_of(controller: Controller) -> Flags
-    ensures { λ r. ⌜ r ≡ flagsOf controller ⌝ }
+// The first refusal in 01's order, or Ok.
+fn publish_status(bad: bool, cells: usize, room: usize) -> Status
+    ensures { λ r. ⌜ number r ≡ cond bad 1 (frameRefusal cells room) ⌝ }
 {
-    let power = controller.power;
-    let chip = controller.chip;
-    let registers = chip.registers;
-    let cfg = controller.cfg;
-    Flags {
-        powered: power.powered,
-        sleeping: registers.sleeping,
-        inverted: registers.inverted,
-        display_on: registers.display_on,
-        invon_shows_ram: cfg.invon_shows_ram,
-        duty: power.duty,
+    if bad {
+        return Status::BadState;
     }
+    if cells != PANEL_PIXELS {
+        return Status::BadMemory;
+    }
+    if room != PANEL_PIXELS {
+        return Status::BadFrame;
+    }
+    Status::Ok
 }
 
-// A refusal hands the controller back, with no span and no flag.
-fn refused(controller: Controller, status: Status) -> Published
-    ensures { λ r. ⌜ r ≡ record { controller = controller; span = Nothing; flags = noFlags; status = status } ⌝ }
+// The span, or nothing where it is not wanted.
+fn span_if(on: bool, span: Span) -> Span
+    ensures { λ r. ⌜ r ≡ cond on span Nothing ⌝ }
 {
-    let flags = Flags {
+    if on {
+        return span;
+    }
+    Span::Nothing
+}
+
+// The flags, or all of them 0.
+fn flags_if(on: bool, power: Power, registers: Registers, cfg: PanelConfig) -> Flags
+    ensures { λ r. ⌜ r ≡ cond on (record { powered = power .powered; sleeping = registers .sleeping; inverted = registers .inverted; «display_on» = registers .«display_on»; «invon_shows_ram» = cfg .«invon_shows_ram»; duty = power .duty }) noFlags ⌝ }
+{
+    if on {
+        return Flags {
+            powered: power.powered,
+            sleeping: registers.sleeping,
+            inverted: registers.inverted,
+            display_on: registers.display_on,
+            invon_shows_ram: cfg.invon_shows_ram,
+            duty: power.duty,
+        };
+    }
+    Flags {
         powered: false,
         sleeping: false,
         inverted: false,
         display_on: false,
         invon_shows_ram: false,
         duty: 0,
-    };
-    Published {
-        controller,
-        span: Span::Nothing,
-        flags,
-        status,
     }
 }
 
 // Copies the rows of the span to the frame, answers span and flags, and empties the span. Memory is only read.
+// A refusal hands the controller back, with no span and no flag.
 pub fn publish(controller: Controller, memory: &[u16], frame: &mut [u16]) -> Published
     ensures refusal { λ r. ⌜ number (r .status) ≡ publishRefusal controller (length (now (memory .entry))) (length (now (frame .entry))) ⌝ }
     ensures answer { λ r. ⌜ r .controller ≡ published (publishRefusal controller (length (now (memory .entry))) (length (now (frame .entry)))) controller ⌝ }
@@ -118,28 +136,22 @@ pub fn publish(controller: Controller, memory: &[u16], frame: &mut [u16]) -> Pub
     ensures flags { λ r. ⌜ r .flags ≡ publishedFlags (publishRefusal controller (length (now (memory .entry))) (length (now (frame .entry)))) controller ⌝ }
     ensures lent { λ r. ⌜ now (frame .exit) ≡ publishedFrame (publishRefusal controller (length (now (memory .entry))) (length (now (frame .entry)))) controller (now (memory .entry)) (now (frame .entry)) ⌝ }
 {
-    if controller.bad_state() {
-        return refused(controller, Status::BadState);
-    }
-    if memory.len() != PANEL_PIXELS {
-        return refused(controller, Status::BadMemory);
-    }
-    if frame.len() != PANEL_PIXELS {
-        return refused(controller, Status::BadFrame);
-    }
-    let marks = controller.marks;
-    let span = marks.dirty;
-    copy_span(span, memory, frame);
-    let flags = flags_of(controller);
+    let bad = controller.bad_state();
+    let status = publish_status(bad, memory.len(), frame.len());
+    let go = status::accepted(status);
     let mut after = controller;
-    let clean = Marks {
-        dirty: Span::Nothing,
-    };
-    after.marks = clean;
+    let marks = after.marks;
+    let dirty = marks.dirty;
+    let flags = flags_if(go, after.power, after.chip.registers, after.cfg);
+    let span = span_if(go, dirty);
+    copy_span(span, memory, frame);
+    let left = span_if(!go, dirty);
+    let marks_after = Marks { dirty: left };
+    after.marks = marks_after;
     Published {
         controller: after,
         span,
         flags,
-        status: Status::Ok,
+        status,
     }
 }

@@ -1,13 +1,16 @@
--- Products that fit, and a channel scaled.
-use Prim.Native.Nat.{ℕ, _-_, _*_, _/_, _^_, _≤_, _<_, min}
+-- Products that fit, a channel scaled, and a table of its values.
+use Prim.Native.Nat.{ℕ, _-_, _*_, _/_, _%_, _^_, _≤_, _<_, min}
 use mathlib.Core.Path.{_≡_, refl, sym, ap, _∙_}
-use mathlib.Core.Bool.{Bool, true, false, Bool·beq}
-use native.Mathlib.Nat.{mul-le-mul}
+use mathlib.Core.Bool.{Bool, true, false, cond, Bool·beq}
+use mathlib.Core.List.{List}
+use native.Mathlib.Nat.{mul-le-mul, mul-zero, div-le-self}
 use native.Mathlib.Omega.{arith}
-use borrow.Author.Tests.{ne-eqb}
+use borrow.Author.Tests.{ne-eqb, eqb-true}
+use lib.Dec.{eqb}
+use lib.ListN.{getD}
 use mir.Val.{Fits}
 use mir.Syntax.{w64}
-use Rattle.views.specs.Light.{scaled}
+use Rattle.views.specs.Light.{scaled, allScaled, joined, dimmed}
 
 pub product-fits : (a b m n : ℕ) → a ≤ m → b ≤ n → m * n < 2 ^ 64 → Fits w64 (a * b)
 product-fits a b m n h k l = let p : a * b ≤ m * n = mul-le-mul h k in record { fits = omega arith }
@@ -28,6 +31,36 @@ module _ (channel level scale l s : ℕ) (el : l ≡ level) (es : s ≡ scale) (
       let e : channel * l / s ≡ channel * level / scale = value-told in
       let m : min (channel * level / scale) (2 ^ 32 - 1) ≡ 4294967295 = omega (arith, e, h) in
       (rw (ne-eqb scale 0 some) (sym m), omega arith)
+
+-- Nothing stays nothing.
+pub scaled-none : (channel level scale : ℕ) → channel * level ≡ 0 → scaled channel level scale ≡ 0
+scaled-none channel level scale e = go (eqb scale 0)
+  where
+    go : (b : Bool) → cond b 0 (min (channel * level / scale) (2 ^ 32 - 1)) ≡ 0
+    go true = refl
+    go false = omega (arith, e, div-le-self (channel * level) scale)
+
+-- Level 0 needs no case of its own.
+zero-anyway : (b : Bool) (x : ℕ) → (b ≡ true → x ≡ 0) → x ≡ cond b 0 x
+zero-anyway true x h = h refl
+zero-anyway false x h = refl
+
+pub dimmed-scaled :
+    (v level scale : ℕ) → joined (scaled (v / 2048) level scale) (scaled (v / 32 % 64) level scale) (scaled (v % 32) level scale) ≡ dimmed v level scale
+unfolding dimmed
+dimmed-scaled v level scale =
+    zero-anyway (eqb level 0) (joined (scaled (v / 2048) level scale) (scaled (v / 32 % 64) level scale) (scaled (v % 32) level scale))
+    (λ e. rw (dark (v / 2048) e, dark (v / 32 % 64) e, dark (v % 32) e))
+  where
+    dark : (channel : ℕ) → eqb level 0 ≡ true → scaled channel level scale ≡ 0
+    dark channel e = scaled-none channel level scale (ap (λ l. channel * l) (eqb-true level 0 e) ∙ mul-zero channel)
+
+-- A pixel put together from the table.
+pub dimmed-by :
+    (values : List ℕ) {v r : ℕ} → v < 65536 → r ≡ joined (getD values (v / 2048) 0) (getD values (v / 32 % 64) 0) (getD values (v % 32) 0) →
+    (level scale : ℕ) → allScaled level scale values → r ≡ dimmed v level scale
+dimmed-by values {v} h e level scale all =
+    e ∙ rw (all (v / 2048) (omega arith), all (v / 32 % 64) (omega arith), all (v % 32) (omega arith)) (dimmed-scaled v level scale)
 
 -- Two switches that agree.
 pub agree-on : (b : Bool) → b ≡ Bool·beq true b

@@ -1,26 +1,37 @@
 -- A whole view and one pixel of it: the loop that fills a buffer, and what a view holds at each index.
-use Prim.Native.Nat.{ℕ, zero, suc, _+_, _-_, _*_, _/_, _^_, _≤_, _<_, min}
+use Prim.Native.Nat.{ℕ, zero, suc, _+_, _-_, _*_, _≤_, _<_}
 use mathlib.Core.Path.{_≡_, refl, sym, ap, _∙_}
-use mathlib.Core.Bool.{Bool, true, false, cond, _&&_}
+use mathlib.Core.Bool.{true, false, cond, _&&_}
 use mathlib.Core.List.{List, [], _∷_, map}
-use native.Mathlib.Nat.{not-suc-le-zero, le-of-suc-le-suc, zero-mul, div-le-self}
+use native.Mathlib.Nat.{not-suc-le-zero, le-of-suc-le-suc, zero-mul}
 use native.Mathlib.Omega.{arith}
-use borrow.Author.Tests.{eqb-true, eqb-false, eq-eqb, ne-eqb, lt-ltb, le-ltb}
-use lib.Dec.{eqb, ltb}
+use borrow.Author.Count.{below-more}
+use borrow.Author.Tests.{eq-eqb, ne-eqb, lt-ltb, le-ltb}
+use lib.Dec.{ltb}
 use lib.ListN.{length, getD, set, replicate, length-set, length-map}
 use lib.Seq.{getD-set-same, getD-set-other, ext-getD}
 use Rattle.st7789.specs.declared.Controller.{Controller}
 use Rattle.pixels.specs.Spans.{zeroed}
-use Rattle.views.specs.Light.{scaled, joined, dimmed, lightOf, glassOf, viewed}
+use Rattle.views.specs.Light.{dimmed, lightOf, glassOf, viewed}
 use Rattle.views.specs.Views.{pixelSeen, frameRefusal, frameSeen}
 use Rattle.views.specs.declared.FrameView.{FrameView}
 use Rattle.views.specs.declared.FrameView.the-variants.{Raw, Glass, Perceived}
 use Rattle.views.specs.declared.Light.{Light}
+use Rattle.views.proofs.Dimming.{scaled-none, dimmed-scaled}
 
 pub at-index : (f : ℕ → ℕ) (l : List ℕ) (k : ℕ) → k < length l → getD (map f l) k 0 ≡ f (getD l k 0)
 at-index f [] k h = absurd (not-suc-le-zero h)
 at-index f (x ∷ l) zero h = refl
 at-index f (x ∷ l) (suc k) h = at-index f l k (le-of-suc-le-suc h)
+
+-- One entry more.
+pub entry-next :
+    (g : ℕ → ℕ) (l : List ℕ) (i v : ℕ) → i < length l → ((k : ℕ) → k < i → getD l k 0 ≡ g k) → v ≡ g i → (k : ℕ) → k < i + 1 → getD (set l i v) k 0 ≡ g k
+entry-next g l i v h each e =
+    below-more (λ k. getD (set l i v) k 0 ≡ g k) i (λ k b. getD-set-other l i k v 0 (other k b) ∙ each k b) (getD-set-same l i v 0 h ∙ e)
+  where
+    other : (k : ℕ) → k < i → k ≡ i → ⊥
+    other k b q = omega arith
 
 pub record Filled (f : ℕ → ℕ) (memory buffer : List ℕ) (i : ℕ) : Type 0 where
   pub within : i ≤ length memory
@@ -34,21 +45,11 @@ module _ {f : ℕ → ℕ} {memory : List ℕ} where
   pub filled-next :
       {buffer : List ℕ} {i v : ℕ} → Filled f memory buffer i → i < length memory → v ≡ f (getD memory i 0) → Filled f memory (set buffer i v) (i + 1)
   filled-next {buffer} {i} {v} u h e =
-      record { within = omega arith; long = length-set buffer i v ∙ u .long; each = λ k l. go k l (eqb k i) refl }
-    where
-      go : (k : ℕ) → k < i + 1 → (b : Bool) → eqb k i ≡ b → getD (set buffer i v) k 0 ≡ f (getD memory k 0)
-      go k l true s =
-          let q : k ≡ i = eqb-true k i s in
-          ap (λ j. getD (set buffer i v) j 0) q
-          ∙ getD-set-same buffer i v 0 (omega (arith, u .long))
-          ∙ e
-          ∙ ap (λ j. f (getD memory j 0)) (sym q)
-      go k l false s =
-          let other = eqb-false k i s in
-          getD-set-other buffer i k v 0 other ∙ u .each k (below k l other)
-        where
-          below : (k : ℕ) → k < i + 1 → (k ≡ i → ⊥) → k < i
-          below k l other = omega arith
+      record {
+        within = omega arith;
+        long = length-set buffer i v ∙ u .long;
+        each = entry-next (λ k. f (getD memory k 0)) buffer i v (omega (arith, u .long)) (u .each) e;
+      }
 
   pub filled-last : {buffer : List ℕ} {i : ℕ} → Filled f memory buffer i → length memory ≤ i → buffer ≡ map f memory
   filled-last {buffer} {i} u h =
@@ -111,20 +112,8 @@ all-zero : (f : ℕ → ℕ) → ((v : ℕ) → f v ≡ 0) → (l : List ℕ) �
 all-zero f e [] = refl
 all-zero f e (v ∷ l) = rw (e v, all-zero f e l)
 
-scaled-black : (level scale : ℕ) → scaled 0 level scale ≡ 0
-scaled-black level scale = go (eqb scale 0)
-  where
-    go : (b : Bool) → cond b 0 (min (0 * level / scale) (2 ^ 32 - 1)) ≡ 0
-    go true = refl
-    go false = omega (arith, zero-mul level, div-le-self (0 * level) scale)
-
 dimmed-black : (level scale : ℕ) → dimmed 0 level scale ≡ 0
-unfolding dimmed
-dimmed-black level scale = go (eqb level 0)
-  where
-    go : (b : Bool) → cond b 0 (joined (scaled 0 level scale) (scaled 0 level scale) (scaled 0 level scale)) ≡ 0
-    go true = refl
-    go false = rw (scaled-black level scale)
+dimmed-black level scale = sym (dimmed-scaled 0 level scale) ∙ rw (scaled-none 0 level scale (zero-mul level))
 
 module _ (light : Light) (memory out : List ℕ) where
   pub glass-plain : light .lit ≡ true → light .plain ≡ true → out ≡ map (λ v. v) memory → out ≡ map (glassOf light) memory

@@ -1,6 +1,9 @@
 -- Document 01, "Fresh panel, views, publishing": what a pixel of memory looks like, dimmed or not.
-use Prim.Native.Nat.{ℕ, _-_, _*_, _/_, _%_, _^_, min}
+use Prim.Native.Nat.{ℕ, _-_, _*_, _/_, _%_, _^_, _<_, min}
+use mathlib.Core.Path.{_≡_}
 use mathlib.Core.Bool.{cond, not, _&&_, Bool·beq}
+use mathlib.Core.List.{List}
+use lib.ListN.{getD}
 use lib.Bits.{bitOr}
 use lib.Dec.{eqb}
 use Rattle.st7789.specs.declared.Controller.{Controller}
@@ -11,6 +14,10 @@ use Rattle.views.specs.declared.FrameView.the-variants.{Raw, Glass, Perc
 -- "each channel becomes channel x level / scale, rounded down, at most 2^32 - 1, and 0 for scale 0"
 abbrev pub scaled : ℕ → ℕ → ℕ → ℕ
 scaled channel level scale = cond (eqb scale 0) 0 (min (channel * level / scale) (2 ^ 32 - 1))
+
+-- A table of what each value of a channel becomes.
+abbrev pub allScaled : ℕ → ℕ → List ℕ → Type 0
+allScaled level scale values = (k : ℕ) → k < 64 → getD values k 0 ≡ scaled k level scale
 
 -- "the low 16 bits of each, shifted by 11, 5, 0 within 16 bits, are joined by or"
 abbrev pub shifted : ℕ → ℕ → ℕ

@@ -2,12 +2,12 @@
 ghost use mathlib.Core.Path.{_≡_};
 ghost use mathlib.Core.Bool.{Bool·beq};
 ghost use mathlib.Core.List.{map};
-ghost use Prim.Native.Nat.{_-_, _*_, _/_, _%_, _^_, _≤_, _<_};
+ghost use Prim.Native.Nat.{ℕ, _-_, _*_, _/_, _%_, _^_, _≤_, _<_};
 ghost use lib.ListN.{length};
 ghost use Rattle.status.specs.Tests.{memoryRefusal};
 ghost use Rattle.status.specs.Numbers.{number};
 ghost use Rattle.views.specs.declared.FrameView.the-variants.{Perceived};
-ghost use Rattle.views.specs.Light.{scaled, dimmed, lightOf, glassOf, viewed};
+ghost use Rattle.views.specs.Light.{scaled, allScaled, joined, dimmed, lightOf, glassOf, viewed};
 ghost use Rattle.views.specs.Views.{pixelSeen, frameRefusal, frameSeen, rowSeen};
 use st7789::Controller;
 use status::Status;
@@ -74,6 +74,12 @@ fn shift(channel: u64, times: u64) -> u16
     (channel % 65536 * times % 65536) as u16
 }
 
+fn join(red: u64, green: u64, blue: u64) -> u16
+    ensures { λ r. ⌜ r ≡ joined red green blue ⌝ }
+{
+    (shift(red, 2048) | shift(green, 32)) | shift(blue, 1)
+}
+
 // One pixel dimmed by a brightness pair, channel by channel. Every pair is taken.
 pub fn dim(pixel: u16, level: u32, scale: u32) -> u16
     ensures answer { λ r. ⌜ r ≡ dimmed pixel level scale ⌝ }
@@ -85,7 +91,28 @@ pub fn dim(pixel: u16, level: u32, scale: u32) -> u16
     let red = scale_value(all / 2048, level, scale);
     let green = scale_value(all / 32 % 64, level, scale);
     let blue = scale_value(all % 32, level, scale);
-    (shift(red, 2048) | shift(green, 32)) | shift(blue, 1)
+    join(red, green, blue)
+}
+
+// What each value of a channel becomes at a brightness pair.
+fn channel_values(level: u32, scale: u32) -> [u64; 64]
+    ensures { λ r. ⌜ allScaled level scale r ⌝ }
+{
+    let mut values = [0; 64];
+    let mut k = 0;
+    while k < 64 {
+        values[k] = scale_value(k as u64, level, scale);
+        k += 1;
+    }
+    values
+}
+
+// One pixel dimmed, its channels looked up.
+fn dim_by(values: &[u64; 64], pixel: u16) -> u16
+    ensures { λ r. ⌜ ((level scale : ℕ) → allScaled level scale (now (values .entry)) → r ≡ dimmed pixel level scale) ⌝ }
+{
+    let all = pixel as usize;
+    join(values[all / 2048], values[all / 32 % 64], values[all % 32])
 }
 
 fn same(a: bool, b: bool) -> bool
@@ -194,9 +221,10 @@ fn dim_all(level: u32, scale: u32, memory: &[u16], buffer: &mut [u16])
     requires { ⌜ length (now buffer) ≡ length (now memory) ⌝ }
     ensures { λ r. ⌜ now (buffer .exit) ≡ map (λ v. dimmed v level scale) (now (memory .entry)) ⌝ }
 {
+    let values = channel_values(level, scale);
     let mut i = 0;
     while i < memory.len() {
-        buffer[i] = dim(memory[i], level, scale);
+        buffer[i] = dim_by(&values, memory[i]);
         i += 1;
     }
 }
@@ -205,9 +233,10 @@ fn dim_complement_all(level: u32, scale: u32, memory: &[u16], buffer: &mut [u16]
     requires { ⌜ length (now buffer) ≡ length (now memory) ⌝ }
     ensures { λ r. ⌜ now (buffer .exit) ≡ map (λ v. dimmed (65535 - v) level scale) (now (memory .entry)) ⌝ }
 {
+    let values = channel_values(level, scale);
     let mut i = 0;
     while i < memory.len() {
-        buffer[i] = dim(complement(memory[i]), level, scale);
+        buffer[i] = dim_by(&values, complement(memory[i]));
         i += 1;
     }
 }

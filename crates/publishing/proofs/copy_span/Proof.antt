@@ -16,7 +16,7 @@ wide-requires-2 : tie.Need-wide-requires-2
 wide-requires-2 c κs = search needs
 
 copy-rows-requires : tie.Need-copy-rows-requires
-copy-rows-requires c κs = (span-rows (c .before .before .before .before .span .given .1) (c .before .before .wide .ensures) (c .before .wide2 .ensures) (c .before .before .before .before .before .before .before .before .pre .0), c .before .before .before .before .before .before .before .before .pre .1)
+copy-rows-requires c κs = let e = c .before .before .before .before .span .given .1 in let p = c .before .before .before .before .before .before .before .before .pre in (span-rows e (c .before .before .wide .ensures) (c .before .wide2 .ensures) (p .0), p .1 _ _ e)
 
 returns : tie.Need-returns
 returns c = search needs

@@ -20,18 +20,12 @@ scale-value-requires-2 c κs = search needs
 scale-value-requires-3 : tie.Need-scale-value-requires-3
 scale-value-requires-3 c κs = search needs
 
-shift-requires : tie.Need-shift-requires
-shift-requires c κs = search needs
-
-shift-requires-2 : tie.Need-shift-requires-2
-shift-requires-2 c κs = search needs
-
-shift-requires-3 : tie.Need-shift-requires-3
-shift-requires-3 c κs = search needs
+join-requires : tie.Need-join-requires
+join-requires c κs = search needs
 
 returns-2 : tie.Need-returns-2
 unfolding dimmed
-returns-2 c = simp (ne-eqb _ _ (c .before .before .before .before .before .before .before .if1 .left), c .before .before .before .before .before .before .wide16 .ensures .0, c .before .before .before .before .before .scale-value .ensures .0, c .before .before .before .before .scale-value2 .ensures .0, c .before .before .before .scale-value3 .ensures .0, c .before .before .shift .ensures, c .before .shift2 .ensures, c .shift3 .ensures)
+returns-2 c = simp (ne-eqb _ _ (c .before .before .before .before .before .if1 .left), c .before .before .before .before .wide16 .ensures .0, c .before .before .before .scale-value .ensures .0, c .before .before .scale-value2 .ensures .0, c .before .scale-value3 .ensures .0, c .join .ensures)
 
 pub dim-spec : {M : Type 1} → statement M
 dim-spec =
@@ -42,7 +36,5 @@ dim-spec =
     scale-value-requires
     scale-value-requires-2
     scale-value-requires-3
-    shift-requires
-    shift-requires-2
-    shift-requires-3
+    join-requires
     returns-2)

@@ -9,28 +9,31 @@ use Rattle.views.proofs.dim_all.Statement.{statement}
 use Rattle.views.proofs.dim_all.Tie as tie
 
 abbrev Inv-loop : tie.InvT-loop
-Inv-loop level scale memory buffer₀ i₀ buffer i = Filled (λ v. dimmed v level scale) memory buffer i
+Inv-loop level scale memory buffer₀ values i₀ buffer i = Filled (λ v. dimmed v level scale) memory buffer i
 
 abbrev μ-loop : tie.MeasureT-loop
-μ-loop level scale memory buffer₀ i₀ buffer i = length memory - i
+μ-loop level scale memory buffer₀ values i₀ buffer i = length memory - i
+
+channel-values-requires : tie.Need-channel-values-requires Inv-loop μ-loop
+channel-values-requires c κs = search needs
 
 loop-holds : tie.Need-loop-holds Inv-loop μ-loop
-loop-holds c = filled-first (c .before .before .pre)
+loop-holds c = filled-first (c .before .before .before .pre)
 
-mul-dim : tie.Need-mul-dim Inv-loop μ-loop
-mul-dim c = search needs
+mul-dim-by : tie.Need-mul-dim-by Inv-loop μ-loop
+mul-dim-by c = search needs
 
-shared-slice-read-dim : tie.Need-shared-slice-read-dim Inv-loop μ-loop
-shared-slice-read-dim c = search needs
+shared-slice-read-dim-by : tie.Need-shared-slice-read-dim-by Inv-loop μ-loop
+shared-slice-read-dim-by c = search needs
 
-dim-requires : tie.Need-dim-requires Inv-loop μ-loop
-dim-requires c κs = search needs
+dim-by-requires : tie.Need-dim-by-requires Inv-loop μ-loop
+dim-by-requires c κs = search needs
 
 mul-buffer : tie.Need-mul-buffer Inv-loop μ-loop
-mul-buffer c = omega (arith, c .before .before .before .loop .inv .long, c .before .before .loop-test .taken)
+mul-buffer c = omega (arith, c .before .before .before .before .loop .inv .long, c .before .before .before .loop-test .taken)
 
 slice-write-buffer : tie.Need-slice-write-buffer Inv-loop μ-loop
-slice-write-buffer c = omega (arith, c .before .before .before .loop .inv .long, c .before .before .loop-test .taken)
+slice-write-buffer c = omega (arith, c .before .before .before .before .loop .inv .long, c .before .before .before .loop-test .taken)
 
 add-i : tie.Need-add-i Inv-loop μ-loop
 add-i c = search needs
@@ -39,10 +42,10 @@ loop-less : tie.Need-loop-less Inv-loop μ-loop
 loop-less c = search needs
 
 loop-again : tie.Need-loop-again Inv-loop μ-loop
-loop-again c = filled-next (c .before .before .before .loop .inv) (c .before .before .loop-test .taken) (c .dim .ensures)
+loop-again c = filled-next (c .before .before .before .before .loop .inv) (c .before .before .before .loop-test .taken) (c .dim-by .ensures _ _ (c .before .before .before .before .before .channel-values .ensures))
 
 same-length : tie.Need-same-length Inv-loop μ-loop
-same-length c = c .before .loop .inv .long ∙ sym (c .before .before .before .before .pre)
+same-length c = c .before .loop .inv .long ∙ sym (c .before .before .before .before .before .pre)
 
 returns : tie.Need-returns Inv-loop μ-loop
 returns c = filled-last (c .before .loop .inv) (c .loop-test .left)
@@ -53,10 +56,11 @@ dim-all-spec =
     (tie.spec
     Inv-loop
     μ-loop
+    channel-values-requires
     loop-holds
-    mul-dim
-    shared-slice-read-dim
-    dim-requires
+    mul-dim-by
+    shared-slice-read-dim-by
+    dim-by-requires
     mul-buffer
     slice-write-buffer
     add-i

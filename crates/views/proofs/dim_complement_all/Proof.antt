@@ -9,13 +9,16 @@ use Rattle.views.proofs.dim_complement_all.Statement.{statement}
 use Rattle.views.proofs.dim_complement_all.Tie as tie
 
 abbrev Inv-loop : tie.InvT-loop
-Inv-loop level scale memory buffer₀ i₀ buffer i = Filled (λ v. dimmed (65535 - v) level scale) memory buffer i
+Inv-loop level scale memory buffer₀ values i₀ buffer i = Filled (λ v. dimmed (65535 - v) level scale) memory buffer i
 
 abbrev μ-loop : tie.MeasureT-loop
-μ-loop level scale memory buffer₀ i₀ buffer i = length memory - i
+μ-loop level scale memory buffer₀ values i₀ buffer i = length memory - i
+
+channel-values-requires : tie.Need-channel-values-requires Inv-loop μ-loop
+channel-values-requires c κs = search needs
 
 loop-holds : tie.Need-loop-holds Inv-loop μ-loop
-loop-holds c = filled-first (c .before .before .pre)
+loop-holds c = filled-first (c .before .before .before .pre)
 
 mul-complement : tie.Need-mul-complement Inv-loop μ-loop
 mul-complement c = search needs
@@ -26,14 +29,14 @@ shared-slice-read-complement c = search needs
 complement-requires : tie.Need-complement-requires Inv-loop μ-loop
 complement-requires c κs = search needs
 
-dim-requires : tie.Need-dim-requires Inv-loop μ-loop
-dim-requires c κs = search needs
+dim-by-requires : tie.Need-dim-by-requires Inv-loop μ-loop
+dim-by-requires c κs = search needs
 
 mul-buffer : tie.Need-mul-buffer Inv-loop μ-loop
-mul-buffer c = omega (arith, c .before .before .before .before .loop .inv .long, c .before .before .before .loop-test .taken)
+mul-buffer c = omega (arith, c .before .before .before .before .before .loop .inv .long, c .before .before .before .before .loop-test .taken)
 
 slice-write-buffer : tie.Need-slice-write-buffer Inv-loop μ-loop
-slice-write-buffer c = omega (arith, c .before .before .before .before .loop .inv .long, c .before .before .before .loop-test .taken)
+slice-write-buffer c = omega (arith, c .before .before .before .before .before .loop .inv .long, c .before .before .before .before .loop-test .taken)
 
 add-i : tie.Need-add-i Inv-loop μ-loop
 add-i c = search needs
@@ -42,10 +45,10 @@ loop-less : tie.Need-loop-less Inv-loop μ-loop
 loop-less c = search needs
 
 loop-again : tie.Need-loop-again Inv-loop μ-loop
-loop-again c = filled-next (c .before .before .before .before .loop .inv) (c .before .before .before .loop-test .taken) (c .dim .ensures ∙ ap (λ v. dimmed v (c .before .before .before .before .before .before .before .args .level) (c .before .before .before .before .before .before .before .args .scale)) (c .before .complement .ensures))
+loop-again c = let a = c .before .before .before .before .before .before .before .before .before .args in filled-next (c .before .before .before .before .before .loop .inv) (c .before .before .before .before .loop-test .taken) (c .dim-by .ensures _ _ (c .before .before .before .before .before .before .channel-values .ensures) ∙ ap (λ v. dimmed v (a .level) (a .scale)) (c .before .complement .ensures))
 
 same-length : tie.Need-same-length Inv-loop μ-loop
-same-length c = c .before .loop .inv .long ∙ sym (c .before .before .before .before .pre)
+same-length c = c .before .loop .inv .long ∙ sym (c .before .before .before .before .before .pre)
 
 returns : tie.Need-returns Inv-loop μ-loop
 returns c = filled-last (c .before .loop .inv) (c .loop-test .left)
@@ -56,11 +59,12 @@ dim-complement-all-spec =
     (tie.spec
     Inv-loop
     μ-loop
+    channel-values-requires
     loop-holds
     mul-complement
     shared-slice-read-complement
     complement-requires
-    dim-requires
+    dim-by-requires
     mul-buffer
     slice-write-buffer
     add-i

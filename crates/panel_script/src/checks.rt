@@ -3,7 +3,6 @@ use crate::args;
 use crate::names;
 use crate::names::Field;
 use crate::names::Name;
-use st7789::Logs;
 
 const MAX_TIME: u64 = u64::MAX;
 
@@ -17,7 +16,7 @@ const MAX_SHORT: u64 = 65535;
 const MAX_USED: u8 = 255;
 
 // The list of bytes of a transfer is looked at where it is read.
-pub fn good(name: Name, line: &[u8], logs: Logs) -> bool {
+pub fn good(name: Name, line: &[u8], traced: u8, warned: u8) -> bool {
     match name {
         Name::Nothing => true,
         Name::Transfer | Name::Bare => segment(line),
@@ -31,7 +30,7 @@ pub fn good(name: Name, line: &[u8], logs: Logs) -> bool {
         Name::Pixel => pixel(line),
         Name::Row => row(line),
         Name::Lend => lend(line),
-        Name::Set => set(names::field_of(line), line, logs),
+        Name::Set => set(names::field_of(line), line, traced, warned),
         Name::Unknown => false,
     }
 }
@@ -66,7 +65,7 @@ pub fn none(line: &[u8]) -> bool {
     args::has(line, 3) & args::is(line, 2, b"none")
 }
 
-fn set(field: Field, line: &[u8], logs: Logs) -> bool {
+fn set(field: Field, line: &[u8], traced: u8, warned: u8) -> bool {
     match field {
         Field::Sleeping | Field::On | Field::Inverted | Field::Run | Field::Applied => {
             args::has(line, 3) & args::flags(line, 2)
@@ -85,8 +84,8 @@ fn set(field: Field, line: &[u8], logs: Logs) -> bool {
         Field::Slpout => none(line) | (args::has(line, 3) & args::counts(line, 2, MAX_TIME)),
         Field::Dirty => none(line) | dirty(line),
         Field::Current => none(line) | (args::has(line, 3) & args::counts(line, 2, 255)),
-        Field::Trace => none(line) | ((logs.traced < MAX_USED) & trace(line)),
-        Field::Warnings => none(line) | ((logs.warned < MAX_USED) & warning(line)),
+        Field::Trace => none(line) | ((traced < MAX_USED) & trace(line)),
+        Field::Warnings => none(line) | ((warned < MAX_USED) & warning(line)),
         Field::Unknown => false,
     }
 }

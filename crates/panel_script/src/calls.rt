@@ -61,6 +61,18 @@ pub fn lend(lent: Lent, name: Name, line: &[u8]) -> Lent {
     }
 }
 
+// How much a call is lent: `set` and `dump` take all.
+pub fn lent_to(name: Name, lent: Lent) -> Lent {
+    match name {
+        Name::Set | Name::Dump => Lent {
+            memory: usize::MAX,
+            frame: usize::MAX,
+            view: usize::MAX,
+        },
+        _ => lent,
+    }
+}
+
 fn send(c: Controller, line: &[u8], bytes: &[u8], memory: &mut [u16]) -> Controller {
     let time = args::number(line, 1);
     let answer = c.transfer(
@@ -135,7 +147,7 @@ fn fill(numbers: &mut [u16], value: u16) {
 }
 
 // set memory HHHH, set frame HHHH
-pub fn set_numbers(line: &[u8], memory: &mut [u16], frame: &mut [u16]) {
+fn set_numbers(line: &[u8], memory: &mut [u16], frame: &mut [u16]) {
     let value = args::short(args::code(line, 2, 4));
     match args::buffer_place(line) {
         0 => fill(memory, value),
@@ -145,7 +157,7 @@ pub fn set_numbers(line: &[u8], memory: &mut [u16], frame: &mut [u16]) {
 }
 
 // set FIELD ..
-pub fn set(mut c: Controller, line: &[u8]) -> Controller {
+fn set(mut c: Controller, line: &[u8]) -> Controller {
     let field = names::field_of(line);
     let logs = c.logs;
     let marks = c.marks;
@@ -196,6 +208,10 @@ pub fn run(
         Name::Reset => reset(c, line, memory),
         Name::Fresh => fresh(line, memory),
         Name::Publish => publish(c, memory, frame),
+        Name::Set => {
+            set_numbers(line, memory, frame);
+            set(c, line)
+        }
         _ => control(c, name, line),
     }
 }

@@ -1,6 +1,7 @@
 // The calls that show something and change nothing.
 use crate::args;
 use crate::digests;
+use crate::dump;
 use crate::names::Name;
 use crate::print;
 use crate::words;
@@ -149,6 +150,7 @@ pub fn look<'a>(
             let records = c.records;
             show_boot(records, c.logs.traced);
         }
+        Name::Dump => dump::print(c, memory, frame, buffer),
         _ => {}
     }
 }

@@ -28,7 +28,7 @@ fn cut(script: &[u8], end: usize) -> bool {
     (MAX_SCRIPT < script.len()) & (MAX_SCRIPT <= end)
 }
 
-// What a call does, with as much of memory, frame and view as is lent.
+// What a call leaves of the panel, with as much of memory, frame and view as it is lent.
 fn call(
     c: Controller,
     name: Name,
@@ -39,9 +39,10 @@ fn call(
     frame: &mut [u16],
     view: &mut [u16],
 ) -> Controller {
-    let cells = args::least(lent.memory, memory.len());
-    let framed = args::least(lent.frame, frame.len());
-    let seen = args::least(lent.view, view.len());
+    let own = calls::lent_to(name, lent);
+    let cells = args::least(own.memory, memory.len());
+    let framed = args::least(own.frame, frame.len());
+    let seen = args::least(own.view, view.len());
     looks::look(
         c,
         name,
@@ -58,30 +59,6 @@ fn call(
         &mut memory[..cells],
         &mut frame[..framed],
     )
-}
-
-// What a line does. `set` and `dump` take all of memory, frame and view.
-fn step(
-    c: Controller,
-    name: Name,
-    line: &[u8],
-    bytes: &[u8],
-    lent: Lent,
-    memory: &mut [u16],
-    frame: &mut [u16],
-    view: &mut [u16],
-) -> Controller {
-    match name {
-        Name::Set => {
-            calls::set_numbers(line, memory, frame);
-            calls::set(c, line)
-        }
-        Name::Dump => {
-            dump::print(c, memory, frame, view);
-            c
-        }
-        _ => call(c, name, line, bytes, lent, memory, frame, view),
-    }
 }
 
 fn run(script: &[u8], bytes: &mut [u8], memory: &mut [u16], frame: &mut [u16], view: &mut [u16]) {
@@ -105,7 +82,7 @@ fn run(script: &[u8], bytes: &mut [u8], memory: &mut [u16], frame: &mut [u16], v
             return;
         }
         lent = calls::lend(lent, name, line);
-        c = step(
+        c = call(
             c,
             name,
             line,

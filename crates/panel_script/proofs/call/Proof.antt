@@ -3,6 +3,9 @@ use borrow.Author.Needs.{needs}
 use Rattle.panel_script.proofs.call.Statement.{statement}
 use Rattle.panel_script.proofs.call.Tie as tie
 
+lent-to-requires : tie.Need-lent-to-requires
+lent-to-requires c κs = search needs
+
 least-requires : tie.Need-least-requires
 least-requires c κs = search needs
 
@@ -64,6 +67,7 @@ pub call-spec : {M : Type 1} → statement M
 call-spec =
     tie.close
     (tie.spec
+    lent-to-requires
     least-requires
     least-requires-2
     least-requires-3

@@ -69,8 +69,8 @@ lend-requires c κs = search needs
 head-requires : tie.Need-head-requires Inv-loop μ-loop
 head-requires c κs = search needs
 
-step-requires : tie.Need-step-requires Inv-loop μ-loop
-step-requires c κs = search needs
+call-requires : tie.Need-call-requires Inv-loop μ-loop
+call-requires c κs = search needs
 
 add-at : tie.Need-add-at Inv-loop μ-loop
 add-at c = omega (arith, c .before .before .before .before .before .before .before .before .before .before .before .before .before .before .before .before .before .before .before .before .before .before .before .before .before .before .before .before .before .before .before .before .good .0, c .before .before .before .before .before .before .before .before .before .before .before .before .before .before .before .before .before .before .before .before .before .before .before .before .loop-test, piece-within 10 (c .before .before .before .before .before .before .before .before .before .before .before .before .before .before .before .before .before .before .before .before .before .before .before .before .before .loop .at) (c .before .before .before .before .before .before .before .before .before .before .before .before .before .before .before .before .before .before .before .before .before .before .before .before .before .before .before .before .before .before .before .before .args .script .now) (c .before .before .before .before .before .before .before .before .before .before .before .before .before .before .before .before .before .before .before .before .before .before .before .tail .ensures) (c .before .before .before .before .before .before .before .before .before .before .before .before .before .before .before .before .before .before .before .before .before .before .before2 .ensures))
@@ -79,7 +79,7 @@ loop-less : tie.Need-loop-less Inv-loop μ-loop
 loop-less c = omega (arith, c .before .before .before .before .before .before .before .before .before .before .before .before .before .before .before .before .before .before .before .before .before .before .before .before .loop-test)
 
 loop-again : tie.Need-loop-again Inv-loop μ-loop
-loop-again c = let inv = c .before .before .before .before .before .before .before .before .before .before .before .before .before .before .before .before .before .before .before .before .before .before .before .before .before .loop .inv in ((omega (arith, inv), omega (arith, c .before .before .before .before .before .before .before .before .before .before .before .before .before .before .before .before .before .before .read .kept .1 .1 .1 .1 .0, inv)), (omega (arith, c .before .before .before .before .before .before .step .kept .1 .1 .1 .1 .1 .0, inv), (omega (arith, c .before .before .before .before .before .before .step .kept .1 .1 .1 .1 .1 .1 .0, inv), omega (arith, c .before .before .before .before .before .before .step .kept .1 .1 .1 .1 .1 .1 .1 .0, inv))))
+loop-again c = let inv = c .before .before .before .before .before .before .before .before .before .before .before .before .before .before .before .before .before .before .before .before .before .before .before .before .before .loop .inv in ((omega (arith, inv), omega (arith, c .before .before .before .before .before .before .before .before .before .before .before .before .before .before .before .before .before .before .read .kept .1 .1 .1 .1 .0, inv)), (omega (arith, c .before .before .before .before .before .before .call .kept .1 .1 .1 .1 .1 .0, inv), (omega (arith, c .before .before .before .before .before .before .call .kept .1 .1 .1 .1 .1 .1 .0, inv), omega (arith, c .before .before .before .before .before .before .call .kept .1 .1 .1 .1 .1 .1 .1 .0, inv))))
 
 print-requires : tie.Need-print-requires Inv-loop μ-loop
 print-requires c κs = search needs
@@ -123,7 +123,7 @@ run-spec =
     returns
     lend-requires
     head-requires
-    step-requires
+    call-requires
     add-at
     loop-less
     loop-again

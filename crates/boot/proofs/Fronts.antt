@@ -7,8 +7,9 @@ use native.Mathlib.Omega.{arith}
 use lib.ListN.{length, take}
 use Rattle.lists.specs.declared.TraceRecord.{TraceRecord}
 use Rattle.lists.proofs.Fronts.{take-most}
-use Rattle.boot.specs.Boot.{bootSequence, fits, answered, comparedFrom, compared}
-use Rattle.boot.specs.declared.BootStep.{BootStep}
+use Rattle.sequence.specs.Sequence.{bootSequence}
+use Rattle.boot.specs.Boot.{fits, answered, comparedFrom, compared}
+use Rattle.sequence.specs.declared.BootStep.{BootStep}
 use Rattle.boot.specs.declared.BootCheck.the-variants.{Differs}
 
 -- Records past the last step do not matter.

@@ -8,8 +8,9 @@ use native.Mathlib.Omega.{arith}
 use lib.ListN.{length, take, drop, getD, drop-of-length-le}
 use lib.Seq.{drop-cons, drop-drop, take-suc}
 use Rattle.lists.specs.declared.TraceRecord.{TraceRecord}
-use Rattle.boot.specs.Boot.{bootSequence, pastStep, fits, emptyRecord, answered, comparedFrom, compared, judged}
-use Rattle.boot.specs.declared.BootStep.{BootStep}
+use Rattle.sequence.specs.Sequence.{bootSequence, pastStep}
+use Rattle.boot.specs.Boot.{fits, emptyRecord, answered, comparedFrom, compared, judged}
+use Rattle.sequence.specs.declared.BootStep.{BootStep}
 use Rattle.boot.specs.declared.BootCheck.the-variants.{Match, Differs, Missing}
 
 -- The comparison with one record, where step k is the first missing one.

@@ -7,8 +7,9 @@ use native.Mathlib.Omega.{arith}
 use lib.ListN.{length, getD}
 use Rattle.lists.specs.Params.{differ}
 use Rattle.lists.specs.declared.TraceRecord.{TraceRecord}
-use Rattle.boot.specs.Boot.{bootSequence, pastStep, fits, emptyRecord, answered, comparedFrom, compared, stepOf}
-use Rattle.boot.specs.declared.BootStep.{BootStep}
+use Rattle.sequence.specs.Sequence.{bootSequence, pastStep}
+use Rattle.boot.specs.Boot.{fits, emptyRecord, answered, comparedFrom, compared, stepOf}
+use Rattle.sequence.specs.declared.BootStep.{BootStep}
 use Rattle.boot.specs.declared.BootCheck.the-variants.{Match, Differs}
 
 -- Record i is there and fits step i, counted from 0.

@@ -1,4 +1,4 @@
--- The rows of the table, and what it means that a record fits one.
+-- What it means that a record fits a row of the table.
 use Prim.Native.Nat.{ℕ, zero, suc, _≤_, _<_}
 use mathlib.Core.Path.{_≡_, refl, sym}
 use mathlib.Core.Bool.{Bool, true, false, not, _&&_}
@@ -11,20 +11,9 @@ use Rattle.lists.specs.Params.{differ}
 use Rattle.lists.specs.declared.TraceRecord.{TraceRecord}
 use Rattle.lists.proofs.Alike.{counts-differ}
 use Rattle.lists.proofs.Bools.{both}
-use Rattle.boot.specs.Boot.{bootSequence, pastStep, fits}
-use Rattle.boot.specs.declared.BootStep.{BootStep}
-
--- Within a list it does not matter what stands past it.
-within : {A : Type 0} (l : List A) (i : ℕ) (d e : A) → i < length l → getD l i d ≡ getD l i e
-within [] i d e h = absurd (omega arith)
-within (x ∷ l) zero d e h = refl
-within (x ∷ l) (suc i) d e h = within l i d e (omega arith)
-
-pub row-within : (k : ℕ) (d : BootStep) → k < 23 → getD bootSequence k d ≡ getD bootSequence k pastStep
-row-within k d h = within bootSequence k d pastStep h
-
-pub row-past : (k : ℕ) → 23 ≤ k → pastStep ≡ getD bootSequence k pastStep
-row-past k h = sym (List·getD-eq-default bootSequence pastStep h)
+use Rattle.sequence.specs.Sequence.{bootSequence, pastStep}
+use Rattle.boot.specs.Boot.{fits}
+use Rattle.sequence.specs.declared.BootStep.{BootStep}
 
 pub other-command : (s : BootStep) (r : TraceRecord) → (s .cmd ≡ r .cmd → ⊥) → false ≡ fits s r
 unfolding fits

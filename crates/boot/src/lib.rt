@@ -3,18 +3,11 @@ ghost use mathlib.Core.Path.{_≡_};
 ghost use mathlib.Core.List.{[], _∷_};
 ghost use Prim.Native.Nat.{_-_, _≤_, min};
 ghost use lib.ListN.{take, drop};
-ghost use Rattle.boot.specs.Boot.{bootSequence, fits, emptyRecord, answered, comparedFrom, compared, judged, stepOf};
+ghost use Rattle.sequence.specs.Sequence.{bootSequence};
+ghost use Rattle.boot.specs.Boot.{fits, emptyRecord, answered, comparedFrom, compared, judged, stepOf};
 use lists::Params;
 use lists::TraceRecord;
-
-mod sequence;
-
-// One command of the boot sequence. The wait after it is the driver's own: nothing here enforces it.
-pub struct BootStep {
-    pub cmd: u8,
-    pub params: Params,
-    pub delay_ms_after: u32,
-}
+use sequence::BootStep;
 
 // A match, or the number of the first step that differs or is missing.
 pub enum BootCheck {
@@ -76,17 +69,15 @@ fn start() -> Compared
     alone(BootCheck::Missing(1))
 }
 
-impl BootStep {
-    fn fits(self, r: TraceRecord) -> bool
-        ensures { λ x. ⌜ x ≡ fits self r ⌝ }
-    {
-        if self.cmd != r.cmd {
-            return false;
-        }
-        let wanted = self.params;
-        let params = r.params;
-        !wanted.differs(params)
+fn step_fits(step: BootStep, r: TraceRecord) -> bool
+    ensures { λ x. ⌜ x ≡ fits step r ⌝ }
+{
+    if step.cmd != r.cmd {
+        return false;
     }
+    let wanted = step.params;
+    let params = r.params;
+    !wanted.differs(params)
 }
 
 impl BootCheck {
@@ -110,7 +101,7 @@ fn judge_step(k: u8, r: TraceRecord) -> Compared
         return alone(BootCheck::Match);
     }
     let step = BootStep::at(index(k));
-    if !step.fits(r) {
+    if !step_fits(step, r) {
         return Compared {
             check: BootCheck::Differs(k),
             found: r,

@@ -23,7 +23,7 @@ use Rattle.report.proofs.put_params as put-params
 use Rattle.report.proofs.put_record as put-record
 use Rattle.report.proofs.put_warnings as put-warnings
 use Rattle.report.proofs.write_report as write-report
-use Rattle.boot.proofs.BootStep.at as at
+use Rattle.sequence.proofs.BootStep.at as at
 use Rattle.boot.proofs.BootCheck.number as step-number
 use Rattle.boot.proofs.judge as judge
 use Rattle.boot.proofs.boot_mismatch as boot-mismatch

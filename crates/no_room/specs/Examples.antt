@@ -13,8 +13,9 @@ use Rattle.lists.specs.Params.{listed, sameNumbers}
 use Rattle.lists.specs.declared.Stored.{Stored}
 use Rattle.lists.specs.declared.Current.{Current}
 use Rattle.lists.specs.declared.Current.the-variants.{At}
-use Rattle.boot.specs.Boot.{bootSequence, compared, stepOf}
-use Rattle.boot.specs.declared.BootStep.{BootStep}
+use Rattle.sequence.specs.Sequence.{bootSequence}
+use Rattle.boot.specs.Boot.{compared, stepOf}
+use Rattle.sequence.specs.declared.BootStep.{BootStep}
 use Rattle.st7789.specs.Parts.{traceOf}
 use Rattle.st7789.specs.Entries.{freshController, transferred, transferMemory}
 use Rattle.st7789.specs.declared.Controller.{Controller}

@@ -1,5 +1,7 @@
 // The calls that change the panel.
 use crate::args;
+use crate::bytes::Expanded;
+use crate::checks;
 use crate::entries;
 use crate::looks;
 use crate::names;
@@ -16,36 +18,20 @@ pub struct Lent {
     pub view: usize,
 }
 
-pub struct Segment {
-    pub time: u64,
-    pub dc: bool,
-    pub cs: bool,
-    pub count: usize,
-    pub good: bool,
-}
-
-// The segment of a transfer, its bytes into a buffer; an empty one for any other call.
-pub fn read_segment(name: Name, line: &[u8], bytes: &mut [u8]) -> Segment {
-    let time = args::number(line, 1);
-    let dc = args::flag(line, 2);
-    let cs = args::flag(line, 3);
+// The bytes of a transfer, into a buffer; none for any other call. Not good where the line makes no sense.
+pub fn read(name: Name, line: &[u8], traced: u8, warned: u8, bytes: &mut [u8]) -> Expanded {
+    let sensible = checks::good(name, line, traced, warned);
     match name {
         Name::Transfer | Name::Bare => {
             let list = args::list(line, 4, bytes);
-            Segment {
-                time,
-                dc,
-                cs,
+            Expanded {
                 count: list.count,
-                good: list.good,
+                good: sensible & list.good,
             }
         }
-        _ => Segment {
-            time,
-            dc,
-            cs,
+        _ => Expanded {
             count: 0,
-            good: true,
+            good: sensible,
         },
     }
 }
@@ -75,43 +61,56 @@ pub fn lend(lent: Lent, name: Name, line: &[u8]) -> Lent {
     }
 }
 
-fn send(c: Controller, s: Segment, bytes: &[u8], cells: usize, memory: &mut [u16]) -> Controller {
-    let count = args::least(s.count, bytes.len());
-    let lent = args::least(cells, memory.len());
-    let answer = c.transfer(s.time, s.dc, &bytes[..count], s.cs, &mut memory[..lent]);
+// How much a call is lent: `set` and `dump` take all.
+pub fn lent_to(name: Name, lent: Lent) -> Lent {
+    match name {
+        Name::Set | Name::Dump => Lent {
+            memory: usize::MAX,
+            frame: usize::MAX,
+            view: usize::MAX,
+        },
+        _ => lent,
+    }
+}
+
+fn send(c: Controller, line: &[u8], bytes: &[u8], memory: &mut [u16]) -> Controller {
+    let time = args::number(line, 1);
+    let answer = c.transfer(
+        time,
+        args::flag(line, 2),
+        bytes,
+        args::flag(line, 3),
+        memory,
+    );
     let status = answer.status;
     print::refusal(status);
     answer.controller
 }
 
-fn send_bare(c: Controller, s: Segment, bytes: &[u8]) -> Controller {
-    let count = args::least(s.count, bytes.len());
-    let answer = c.transfer_without_memory(s.time, s.dc, &bytes[..count], s.cs);
+fn send_bare(c: Controller, line: &[u8], bytes: &[u8]) -> Controller {
+    let time = args::number(line, 1);
+    let answer = c.transfer_without_memory(time, args::flag(line, 2), bytes, args::flag(line, 3));
     let status = answer.status;
     print::refusal(status);
     answer.controller
 }
 
-fn reset(c: Controller, line: &[u8], cells: usize, memory: &mut [u16]) -> Controller {
-    let lent = args::least(cells, memory.len());
-    let answer = c.reset(args::domain(line), &mut memory[..lent]);
+fn reset(c: Controller, line: &[u8], memory: &mut [u16]) -> Controller {
+    let answer = c.reset(args::domain(line), memory);
     let status = answer.status;
     print::refusal(status);
     answer.controller
 }
 
-fn fresh(line: &[u8], cells: usize, memory: &mut [u16]) -> Controller {
-    let lent = args::least(cells, memory.len());
-    let answer = Controller::new(args::flag(line, 1), &mut memory[..lent]);
+fn fresh(line: &[u8], memory: &mut [u16]) -> Controller {
+    let answer = Controller::new(args::flag(line, 1), memory);
     let status = answer.status;
     print::refusal(status);
     answer.controller
 }
 
-fn publish(c: Controller, l: Lent, memory: &[u16], frame: &mut [u16]) -> Controller {
-    let lent = args::least(l.memory, memory.len());
-    let framed = args::least(l.frame, frame.len());
-    let answer = publishing::publish(c, &memory[..lent], &mut frame[..framed]);
+fn publish(c: Controller, memory: &[u16], frame: &mut [u16]) -> Controller {
+    let answer = publishing::publish(c, memory, frame);
     let status = answer.status;
     let span = answer.span;
     let flags = answer.flags;
@@ -121,8 +120,8 @@ fn publish(c: Controller, l: Lent, memory: &[u16], frame: &mut [u16]) -> Control
 
 fn print_taken(warnings: [Warning; 128], count: u8) {
     let mut out = [0u8; 5000];
-    let counted = lines::put_line(&mut out, 0, b"taken", &[count as u64]);
-    let used = report::put_warnings(&mut out, counted, warnings, count);
+    let used = report::put_warnings(&mut out, 0, warnings, count);
+    print::line(b"taken", &[count as u64]);
     print::show(&out, used);
 }
 
@@ -182,32 +181,37 @@ fn set(mut c: Controller, line: &[u8]) -> Controller {
     c
 }
 
-// What a call leaves of the panel and of the lent numbers.
-pub fn run(
-    c: Controller,
-    name: Name,
-    line: &[u8],
-    s: Segment,
-    bytes: &[u8],
-    l: Lent,
-    memory: &mut [u16],
-    frame: &mut [u16],
-) -> Controller {
+// What a call leaves of the panel, where it needs nothing that is lent.
+fn control(c: Controller, name: Name, line: &[u8]) -> Controller {
     match name {
-        Name::Transfer => send(c, s, bytes, l.memory, memory),
-        Name::Bare => send_bare(c, s, bytes),
         Name::Power => c.set_powered(args::flag(line, 1)),
         Name::Switch => c.set_invon_shows_ram(args::flag(line, 1)),
         Name::Brightness => brightness(c, line),
         Name::MarkAll => c.mark_all_dirty(),
         Name::TakeWarnings => take_warnings(c),
-        Name::Reset => reset(c, line, l.memory, memory),
-        Name::Fresh => fresh(line, l.memory, memory),
-        Name::Publish => publish(c, l, memory, frame),
+        _ => c,
+    }
+}
+
+// What a call leaves of the panel and of the lent numbers.
+pub fn run(
+    c: Controller,
+    name: Name,
+    line: &[u8],
+    bytes: &[u8],
+    memory: &mut [u16],
+    frame: &mut [u16],
+) -> Controller {
+    match name {
+        Name::Transfer => send(c, line, bytes, memory),
+        Name::Bare => send_bare(c, line, bytes),
+        Name::Reset => reset(c, line, memory),
+        Name::Fresh => fresh(line, memory),
+        Name::Publish => publish(c, memory, frame),
         Name::Set => {
             set_numbers(line, memory, frame);
             set(c, line)
         }
-        _ => c,
+        _ => control(c, name, line),
     }
 }

@@ -3,7 +3,6 @@ use crate::args;
 use crate::names;
 use crate::names::Field;
 use crate::names::Name;
-use st7789::Logs;
 
 const MAX_TIME: u64 = u64::MAX;
 
@@ -17,21 +16,22 @@ const MAX_SHORT: u64 = 65535;
 const MAX_USED: u8 = 255;
 
 // The list of bytes of a transfer is looked at where it is read.
-pub fn good(name: Name, line: &[u8], logs: Logs) -> bool {
+pub fn good(name: Name, line: &[u8], traced: u8, warned: u8) -> bool {
+    let one = args::has(line, 2);
     match name {
         Name::Nothing => true,
         Name::Transfer | Name::Bare => segment(line),
-        Name::Power | Name::Switch | Name::Fresh => args::has(line, 2) & args::flags(line, 1),
+        Name::Power | Name::Switch | Name::Fresh => one & args::flags(line, 1),
         Name::Brightness => brightness(line),
         Name::MarkAll | Name::TakeWarnings | Name::Publish | Name::Boot | Name::Dump => {
             args::has(line, 1)
         }
-        Name::Reset => args::has(line, 2) & (args::domain_place(line) < 7),
-        Name::View => args::has(line, 2) & (args::view_place(line) < 3),
+        Name::Reset => one & (args::domain_place(line) < 7),
+        Name::View => one & (args::view_place(line) < 3),
         Name::Pixel => pixel(line),
         Name::Row => row(line),
         Name::Lend => lend(line),
-        Name::Set => set(names::field_of(line), line, logs),
+        Name::Set => set(names::field_of(line), line, traced, warned),
         Name::Unknown => false,
     }
 }
@@ -66,27 +66,27 @@ pub fn none(line: &[u8]) -> bool {
     args::has(line, 3) & args::is(line, 2, b"none")
 }
 
-fn set(field: Field, line: &[u8], logs: Logs) -> bool {
+fn set(field: Field, line: &[u8], traced: u8, warned: u8) -> bool {
+    let one = args::has(line, 3);
+    let none = none(line);
     match field {
         Field::Sleeping | Field::On | Field::Inverted | Field::Run | Field::Applied => {
-            args::has(line, 3) & args::flags(line, 2)
+            one & args::flags(line, 2)
         }
-        Field::Madctl | Field::Colmod => args::has(line, 3) & args::codes(line, 2, 2),
-        Field::Ramctrl | Field::Memory | Field::Frame => {
-            args::has(line, 3) & args::codes(line, 2, 4)
-        }
+        Field::Madctl | Field::Colmod => one & args::codes(line, 2, 2),
+        Field::Ramctrl | Field::Memory | Field::Frame => one & args::codes(line, 2, 4),
         Field::Win => win(line),
-        Field::Carry | Field::Cmd => none(line) | (args::has(line, 3) & args::codes(line, 2, 2)),
-        Field::Params => args::has(line, 3) & listed(line, 2),
+        Field::Carry | Field::Cmd => none | (one & args::codes(line, 2, 2)),
+        Field::Params => one & listed(line, 2),
         Field::Stored => stored(line),
         Field::Commands | Field::Ramwrs | Field::Pixels | Field::Dropped | Field::Slpin => {
-            args::has(line, 3) & args::counts(line, 2, MAX_TIME)
+            one & args::counts(line, 2, MAX_TIME)
         }
-        Field::Slpout => none(line) | (args::has(line, 3) & args::counts(line, 2, MAX_TIME)),
-        Field::Dirty => none(line) | dirty(line),
-        Field::Current => none(line) | (args::has(line, 3) & args::counts(line, 2, 255)),
-        Field::Trace => none(line) | ((logs.traced < MAX_USED) & trace(line)),
-        Field::Warnings => none(line) | ((logs.warned < MAX_USED) & warning(line)),
+        Field::Slpout => none | (one & args::counts(line, 2, MAX_TIME)),
+        Field::Dirty => none | dirty(line),
+        Field::Current => none | (one & args::counts(line, 2, 255)),
+        Field::Trace => none | ((traced < MAX_USED) & trace(line)),
+        Field::Warnings => none | ((warned < MAX_USED) & warning(line)),
         Field::Unknown => false,
     }
 }

@@ -1,4 +1,6 @@
 // Digests of numbers: two sums modulo 2^64.
+use crate::print;
+
 struct Sums {
     a: u64,
     b: u64,
@@ -22,10 +24,10 @@ fn digest(numbers: &[u16]) -> Sums {
 }
 
 // A digest after a space, and the line's end.
-pub fn put(out: &mut [u8], at: usize, numbers: &[u16]) -> usize {
+pub fn print(numbers: &[u16]) {
     let sums = digest(numbers);
-    let parted = text::put_byte(out, at, b' ');
-    let first = text::put_hex(out, parted, sums.a, 16);
-    let second = text::put_hex(out, first, sums.b, 16);
-    text::put_byte(out, second, b'\n')
+    print::text(b" ");
+    io::print_hex(1, sums.a, 16);
+    io::print_hex(1, sums.b, 16);
+    print::text(b"\n");
 }

@@ -5,6 +5,7 @@ use crate::print;
 use board::PanelConfig;
 use board::Power;
 use chip::Chip;
+use chip::Decoder;
 use chip::InForce;
 use lists::Current;
 use lists::Stored;
@@ -15,10 +16,8 @@ use timing::Moment;
 use views::FrameView;
 
 fn print_digest(name: &[u8], numbers: &[u16]) {
-    let mut out = [0u8; 100];
-    let named = text::put_bytes(&mut out, 0, name);
-    let used = digests::put(&mut out, named, numbers);
-    print::show(&out, used);
+    print::text(name);
+    digests::print(numbers);
 }
 
 fn print_view(c: Controller, view: FrameView, name: &[u8], memory: &[u16], seen: &mut [u16]) {
@@ -48,85 +47,68 @@ fn print_report(controller: Controller) {
 }
 
 fn print_ctl(power: Power, cfg: PanelConfig) {
-    let mut out = [0u8; 100];
     let ns = [
         power.powered as u64,
         cfg.invon_shows_ram as u64,
         power.level as u64,
         power.duty as u64,
     ];
-    let used = lines::put_line(&mut out, 0, b"ctl", &ns);
-    print::show(&out, used);
+    print::line(b"ctl", &ns);
 }
 
-fn put_none(out: &mut [u8], at: usize) -> usize {
-    text::put_bytes(out, at, b" none")
-}
-
-fn put_in_force(out: &mut [u8], at: usize, cmd: InForce) -> usize {
+fn print_in_force(cmd: InForce) {
     match cmd {
-        InForce::Nothing => put_none(out, at),
-        InForce::Code(c) => lines::put_hex_bytes(out, at, &[c]),
+        InForce::Nothing => print::text(b" none"),
+        InForce::Code(c) => print::byte(c),
     }
 }
 
-fn put_carry(out: &mut [u8], at: usize, carry: Carry) -> usize {
+fn print_carry(carry: Carry) {
     match carry {
-        Carry::Empty => put_none(out, at),
-        Carry::High(byte) => lines::put_hex_bytes(out, at, &[byte]),
+        Carry::Empty => print::text(b" none"),
+        Carry::High(byte) => print::byte(byte),
     }
 }
 
-fn print_ctx(chip: Chip) {
-    let decoder = chip.decoder;
-    let walk = chip.walk;
+fn print_ctx(decoder: Decoder, carry: Carry) {
     let cmd = decoder.cmd;
-    let carry = walk.carry;
     let params = decoder.params;
-    let mut out = [0u8; 200];
-    let named = text::put_bytes(&mut out, 0, b"ctx");
-    let forced = put_in_force(&mut out, named, cmd);
-    let flags = [decoder.in_pixels as u64, decoder.applied as u64];
-    let flagged = lines::put_numbers(&mut out, forced, &flags);
-    let carried = put_carry(&mut out, flagged, carry);
-    let listed = report::put_params(&mut out, carried, params);
-    let used = text::put_byte(&mut out, listed, b'\n');
-    print::show(&out, used);
+    print::text(b"ctx");
+    print_in_force(cmd);
+    print::number(decoder.in_pixels as u64);
+    print::number(decoder.applied as u64);
+    print_carry(carry);
+    print::params(params);
 }
 
-fn put_moment(out: &mut [u8], at: usize, moment: Moment) -> usize {
+fn print_moment(moment: Moment) {
     match moment {
-        Moment::Never => put_none(out, at),
-        Moment::At(t) => lines::put_numbers(out, at, &[t]),
+        Moment::Never => print::text(b" none"),
+        Moment::At(t) => print::number(t),
     }
 }
 
-fn put_current(out: &mut [u8], at: usize, current: Current) -> usize {
+fn print_current(current: Current) {
     match current {
-        Current::Nothing => put_none(out, at),
-        Current::At(i) => lines::put_numbers(out, at, &[i as u64]),
+        Current::Nothing => print::text(b" none"),
+        Current::At(i) => print::number(i as u64),
     }
 }
 
 fn print_at(slpout: Moment, slpin: u64, current: Current) {
-    let mut out = [0u8; 100];
-    let named = text::put_bytes(&mut out, 0, b"at");
-    let woken = put_moment(&mut out, named, slpout);
-    let asleep = lines::put_numbers(&mut out, woken, &[slpin]);
-    let held = put_current(&mut out, asleep, current);
-    let used = text::put_byte(&mut out, held, b'\n');
-    print::show(&out, used);
+    print::text(b"at");
+    print_moment(slpout);
+    print::number(slpin);
+    print_current(current);
+    print::text(b"\n");
 }
 
 fn print_stored(code: u8, entry: Stored) {
     if entry.present {
         let params = entry.params;
-        let mut out = [0u8; 100];
-        let named = text::put_bytes(&mut out, 0, b"s");
-        let coded = lines::put_hex_bytes(&mut out, named, &[code]);
-        let listed = report::put_params(&mut out, coded, params);
-        let used = text::put_byte(&mut out, listed, b'\n');
-        print::show(&out, used);
+        print::text(b"s");
+        print::byte(code);
+        print::params(params);
     }
 }
 
@@ -163,9 +145,12 @@ fn print_all_stored(stored: [Stored; 12]) {
 
 // The rest of the state, after the report.
 fn print_rest(chip: Chip, current: Current, stored: [Stored; 12]) {
+    let decoder = chip.decoder;
+    let walk = chip.walk;
+    let carry = walk.carry;
     let times = chip.times;
     let slpout = times.slpout;
-    print_ctx(chip);
+    print_ctx(decoder, carry);
     print_at(slpout, times.slpin, current);
     print_all_stored(stored);
 }

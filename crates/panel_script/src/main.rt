@@ -3,6 +3,7 @@ ghost use mathlib.Core.Path.{_≡_};
 ghost use Prim.Native.Nat.{_≤_};
 ghost use lib.ListN.{length};
 use calls::Lent;
+use names::Name;
 use st7789::Controller;
 use status::PANEL_PIXELS;
 
@@ -27,6 +28,39 @@ fn cut(script: &[u8], end: usize) -> bool {
     (MAX_SCRIPT < script.len()) & (MAX_SCRIPT <= end)
 }
 
+// What a call leaves of the panel, with as much of memory, frame and view as it is lent.
+fn call(
+    c: Controller,
+    name: Name,
+    line: &[u8],
+    bytes: &[u8],
+    lent: Lent,
+    memory: &mut [u16],
+    frame: &mut [u16],
+    view: &mut [u16],
+) -> Controller {
+    let own = calls::lent_to(name, lent);
+    let cells = args::least(own.memory, memory.len());
+    let framed = args::least(own.frame, frame.len());
+    let seen = args::least(own.view, view.len());
+    looks::look(
+        c,
+        name,
+        line,
+        &memory[..cells],
+        &frame[..framed],
+        &mut view[..seen],
+    );
+    calls::run(
+        c,
+        name,
+        line,
+        bytes,
+        &mut memory[..cells],
+        &mut frame[..framed],
+    )
+}
+
 fn run(script: &[u8], bytes: &mut [u8], memory: &mut [u16], frame: &mut [u16], view: &mut [u16]) {
     let mut c = Controller::fresh(true);
     let mut lent = Lent {
@@ -41,16 +75,23 @@ fn run(script: &[u8], bytes: &mut [u8], memory: &mut [u16], frame: &mut [u16], v
         let line = words::before(whole, b'#');
         let end = at + whole.len();
         let name = names::name_of(line);
-        let segment = calls::read_segment(name, line, bytes);
-        let logs = c.logs;
+        let list = calls::read(name, line, c.logs.traced, c.logs.warned, bytes);
         number += 1;
-        if cut(script, end) | !(checks::good(name, line, logs) & segment.good) {
+        if cut(script, end) | !list.good {
             print::bad_line(number);
             return;
         }
         lent = calls::lend(lent, name, line);
-        looks::look(c, name, line, lent, memory, frame, view);
-        c = calls::run(c, name, line, segment, bytes, lent, memory, frame);
+        c = call(
+            c,
+            name,
+            line,
+            words::head(bytes, list.count),
+            lent,
+            memory,
+            frame,
+            view,
+        );
         at = end + 1;
     }
     dump::print(c, memory, frame, view);

@@ -32,6 +32,14 @@ fn past(bytes: &[u8], from: usize, b: u8) -> usize
     i
 }
 
+// The first n bytes; all of them where there are fewer.
+pub fn head(bytes: &[u8], n: usize) -> &[u8] {
+    if n <= bytes.len() {
+        return &bytes[..n];
+    }
+    bytes
+}
+
 // What follows a place; nothing past the end.
 pub fn tail(bytes: &[u8], from: usize) -> &[u8]
     ensures { λ r. ⌜ now r ≡ drop from (now (bytes .entry)) ⌝ }

@@ -17,13 +17,13 @@ index-requires c κs = search needs
 at-requires : tie.Need-at-requires
 at-requires c κs = search needs
 
-fits-requires : tie.Need-fits-requires
-fits-requires c κs = search needs
+step-fits-requires : tie.Need-step-fits-requires
+step-fits-requires c κs = search needs
 
 returns-2 : tie.Need-returns-2
 returns-2 c =
     let f = c .before in
-    judged-differs _ _ (f .before .before .before .if1 .left) (f .before .before .index .ensures) (f .before .at .ensures) (f .fits2 .ensures)
+    judged-differs _ _ (f .before .before .before .if1 .left) (f .before .before .index .ensures) (f .before .at .ensures) (f .step-fits .ensures)
     (not-true _ (c .if2 .taken))
 
 add-next : tie.Need-add-next
@@ -36,7 +36,7 @@ returns-3 : tie.Need-returns-3
 returns-3 c =
     let f = c .before .before .before in
     c .alone2 .ensures ∙
-    judged-next _ _ (f .before .before .before .if1 .left) (f .before .before .index .ensures) (f .before .at .ensures) (f .fits2 .ensures)
+    judged-next _ _ (f .before .before .before .if1 .left) (f .before .before .index .ensures) (f .before .at .ensures) (f .step-fits .ensures)
     (not-false _ (c .before .before .if2 .left)) (c .before .if3 .taken)
 
 alone-requires-3 : tie.Need-alone-requires-3
@@ -46,7 +46,7 @@ returns-4 : tie.Need-returns-4
 returns-4 c =
     let f = c .before .before .before in
     c .alone3 .ensures ∙
-    judged-last _ _ (f .before .before .before .if1 .left) (f .before .before .index .ensures) (f .before .at .ensures) (f .fits2 .ensures)
+    judged-last _ _ (f .before .before .before .if1 .left) (f .before .before .index .ensures) (f .before .at .ensures) (f .step-fits .ensures)
     (not-false _ (c .before .before .if2 .left)) (c .before .if3 .left)
 
 pub judge-step-spec : {M : Type 1} → statement M
@@ -57,7 +57,7 @@ judge-step-spec =
     returns
     index-requires
     at-requires
-    fits-requires
+    step-fits-requires
     returns-2
     add-next
     alone-requires-2

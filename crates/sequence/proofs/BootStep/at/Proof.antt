@@ -1,7 +1,7 @@
-use Rattle.boot.proofs.Steps.{row-within, row-past}
+use Rattle.sequence.proofs.Rows.{row-within, row-past}
 use borrow.Author.Needs.{needs}
-use Rattle.boot.proofs.BootStep.at.Statement.{statement}
-use Rattle.boot.proofs.BootStep.at.Tie as tie
+use Rattle.sequence.proofs.BootStep.at.Statement.{statement}
+use Rattle.sequence.proofs.BootStep.at.Tie as tie
 
 mul-result : tie.Need-mul-result
 mul-result c = search needs

@@ -1,9 +1,15 @@
 // The boot sequence: what the official firmware sends between power-on and the first flush.
 ghost use mathlib.Core.Path.{_≡_};
 ghost use lib.ListN.{getD};
-ghost use Rattle.boot.specs.Boot.{bootSequence, pastStep};
-use crate::BootStep;
+ghost use Rattle.sequence.specs.Sequence.{bootSequence, pastStep};
 use lists::Params;
+
+// One command of the boot sequence. The wait after it is the driver's own: nothing here enforces it.
+pub struct BootStep {
+    pub cmd: u8,
+    pub params: Params,
+    pub delay_ms_after: u32,
+}
 
 const BOOT_SEQUENCE: [BootStep; 23] = [
     BootStep {

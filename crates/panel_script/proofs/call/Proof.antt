@@ -19,19 +19,19 @@ slice-reshare-prefix-look : tie.Need-slice-reshare-prefix-look
 slice-reshare-prefix-look c = search needs
 
 slice-aggregate-look : tie.Need-slice-aggregate-look
-slice-aggregate-look c = search (needs, part-long)
+slice-aggregate-look c = part-long _ _ (c .before .before .before .least .ensures)
 
 slice-reshare-prefix-look-2 : tie.Need-slice-reshare-prefix-look-2
 slice-reshare-prefix-look-2 c = search needs
 
 slice-aggregate-look-2 : tie.Need-slice-aggregate-look-2
-slice-aggregate-look-2 c = search (needs, part-long)
+slice-aggregate-look-2 c = part-long _ _ (c .before .before .before .least2 .ensures)
 
 slice-relend-prefix-look : tie.Need-slice-relend-prefix-look
 slice-relend-prefix-look c = search needs
 
 slice-aggregate-look-3 : tie.Need-slice-aggregate-look-3
-slice-aggregate-look-3 c = search (needs, part-long)
+slice-aggregate-look-3 c = part-long _ _ (c .before .before .before .least3 .ensures)
 
 look-requires : tie.Need-look-requires
 look-requires c κs = search needs
@@ -40,13 +40,13 @@ slice-relend-prefix-run : tie.Need-slice-relend-prefix-run
 slice-relend-prefix-run c = search needs
 
 slice-aggregate-run : tie.Need-slice-aggregate-run
-slice-aggregate-run c = search (needs, part-long)
+slice-aggregate-run c = part-long _ _ (c .before .before .before .before .before .before .before .before .before .least .ensures)
 
 slice-relend-prefix-run-2 : tie.Need-slice-relend-prefix-run-2
 slice-relend-prefix-run-2 c = search needs
 
 slice-aggregate-run-2 : tie.Need-slice-aggregate-run-2
-slice-aggregate-run-2 c = search (needs, part-long)
+slice-aggregate-run-2 c = part-long _ _ (c .before .before .before .before .before .before .before .before .before .least2 .ensures)
 
 run-requires : tie.Need-run-requires
 run-requires c κs = search needs

@@ -158,11 +158,11 @@ module _
 
     -- nothing to keep
     pub quiet-turn :
-        ltb (s .logs .traced) 128 || (ltb (logs .warned) 128 && (b .rule1 || (b .rule2 || b .rule3))) ≡ false →
+        {x : Bool} → x ≡ ltb (s .logs .traced) 128 || (ltb (logs .warned) 128 && (b .rule1 || (b .rule2 || b .rule3))) → x ≡ false →
         turned s chip counts logs (s .records) ≡ begun c t s
-    quiet-turn e =
+    quiet-turn ex e =
         let n = s .logs .traced in
-        let k = neither (ltb n 128) (ltb (logs .warned) 128 && (b .rule1 || (b .rule2 || b .rule3))) e in
+        let k = neither (ltb n 128) (ltb (logs .warned) 128 && (b .rule1 || (b .rule2 || b .rule3))) (sym ex ∙ e) in
         ap (λ f. withWarnings f (turned s chip counts logs (s .records)))
         (sym (nothing-kept (warningsOf (turned s chip counts logs (s .records))) (warning c t) b (k .1)))
         ∙ late (full-trace n (s .records) (begunRecord c t) (k .0))

@@ -1,5 +1,4 @@
 use Prim.Native.Nat.{_-_}
-use mathlib.Core.Path.{sym, _∙_}
 use lib.ListN.{length}
 use native.Mathlib.Omega.{arith}
 use Rattle.st7789.proofs.Commands.{put, Turn, turn-first, turn-next, turn-last, quiet-turn, loud-turn}
@@ -128,7 +127,7 @@ loop-less-2 : tie.Need-loop-less-2 Inv-loop μ-loop
 loop-less-2 c = omega (arith, c .before .before .before .before .before .before .before .loop-test .taken)
 
 loop-again-2 : tie.Need-loop-again-2 Inv-loop μ-loop
-loop-again-2 c = let l = c .before .before .before .before .before .before .before .before .loop in turn-next (l .inv) (c .before .before .before .before .before .before .before .loop-test .taken) (quiet-turn _ _ (put (l .self) (l .chip) (l .counts) (l .logs)) (c .before .before .before .before .before .lint .ensures) (c .before .before .before .before .begin .ensures) (c .before .before .before .begin2 .ensures) (c .before .before .begin3 .ensures) (sym (c .before .to-list .ensures) ∙ c .if1 .left))
+loop-again-2 c = let l = c .before .before .before .before .before .before .before .before .loop in turn-next (l .inv) (c .before .before .before .before .before .before .before .loop-test .taken) (quiet-turn _ _ (put (l .self) (l .chip) (l .counts) (l .logs)) (c .before .before .before .before .before .lint .ensures) (c .before .before .before .before .begin .ensures) (c .before .before .before .begin2 .ensures) (c .before .before .begin3 .ensures) (c .before .to-list .ensures) (c .if1 .left))
 
 returns : tie.Need-returns Inv-loop μ-loop
 returns c = turn-last (c .before .loop .inv) (c .loop-test .left)

@@ -66,8 +66,8 @@ fn begun_record(traced: u8, c: u8, t: u64, old: TraceRecord) -> TraceRecord
     old
 }
 
-// Whether there is room for a record, or a warning to keep and room for one.
-fn to_list(traced: u8, warned: u8, broken: Broken) -> bool
+// Whether trace or warnings grow: there is room for a record, or a rule is broken and there is room for a warning.
+fn lists_grow(traced: u8, warned: u8, broken: Broken) -> bool
     ensures { λ r. ⌜ r ≡ (ltb traced 128 || (ltb warned 128 && (broken .rule1 || (broken .rule2 || broken .rule3)))) ⌝ }
 {
     (traced < 128) | ((warned < 128) & (broken.rule1 | (broken.rule2 | broken.rule3)))
@@ -118,7 +118,7 @@ impl Controller {
             counts = counts.begin(c);
             let traced = logs.traced;
             logs = logs.begin();
-            if to_list(traced, logs.warned, broken) {
+            if lists_grow(traced, logs.warned, broken) {
                 let at = slot(traced);
                 let record = begun_record(traced, c, t, self.records[at]);
                 self.records[at] = record;

@@ -33,8 +33,8 @@ begin-requires-2 c κs = let u = c .before .before .before .before .loop .inv in
 begin-requires-3 : tie.Need-begin-requires-3 Inv-loop μ-loop
 begin-requires-3 c κs = search needs
 
-to-list-requires : tie.Need-to-list-requires Inv-loop μ-loop
-to-list-requires c κs = search needs
+lists-grow-requires : tie.Need-lists-grow-requires Inv-loop μ-loop
+lists-grow-requires c κs = search needs
 
 slot-requires : tie.Need-slot-requires Inv-loop μ-loop
 slot-requires c κs = search needs
@@ -127,7 +127,7 @@ loop-less-2 : tie.Need-loop-less-2 Inv-loop μ-loop
 loop-less-2 c = omega (arith, c .before .before .before .before .before .before .before .loop-test .taken)
 
 loop-again-2 : tie.Need-loop-again-2 Inv-loop μ-loop
-loop-again-2 c = let l = c .before .before .before .before .before .before .before .before .loop in turn-next (l .inv) (c .before .before .before .before .before .before .before .loop-test .taken) (quiet-turn _ _ (put (l .self) (l .chip) (l .counts) (l .logs)) (c .before .before .before .before .before .lint .ensures) (c .before .before .before .before .begin .ensures) (c .before .before .before .begin2 .ensures) (c .before .before .begin3 .ensures) (c .before .to-list .ensures) (c .if1 .left))
+loop-again-2 c = let l = c .before .before .before .before .before .before .before .before .loop in turn-next (l .inv) (c .before .before .before .before .before .before .before .loop-test .taken) (quiet-turn _ _ (put (l .self) (l .chip) (l .counts) (l .logs)) (c .before .before .before .before .before .lint .ensures) (c .before .before .before .before .begin .ensures) (c .before .before .before .begin2 .ensures) (c .before .before .begin3 .ensures) (c .before .lists-grow .ensures) (c .if1 .left))
 
 returns : tie.Need-returns Inv-loop μ-loop
 returns c = turn-last (c .before .loop .inv) (c .loop-test .left)
@@ -145,7 +145,7 @@ begin-commands-spec =
     begin-requires
     begin-requires-2
     begin-requires-3
-    to-list-requires
+    lists-grow-requires
     slot-requires
     mul-begun-record
     element-copy-out-begun-record

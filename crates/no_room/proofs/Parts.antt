@@ -1,5 +1,6 @@
--- Every public operation of status, geometry, pixels, engine, lists, timing, board and chip: its promise, which is its contract, leaves no room.
+-- Every public operation of digests, status, geometry, pixels, engine, lists, timing, board and chip: its promise, which is its contract, leaves no room.
 use mathlib.Core.Path.{refl}
+use Rattle.digests.proofs.digest as digest
 use Rattle.status.proofs.number as number
 use Rattle.status.proofs.accepted as accepted
 use Rattle.status.proofs.counts_high as counts-high
@@ -39,6 +40,9 @@ use Rattle.chip.proofs.Chip.begin as begin
 use Rattle.chip.proofs.Chip.take as take
 use Rattle.chip.proofs.Chip.release as release
 use Rattle.no_room.proofs.Only.{Only, same, told}
+
+pub digest-one : Only digest.ended digest.Reads.Learnt
+digest-one κs args x y u v p q = (same p q, refl)
 
 pub number-one : Only number.ended number.Reads.Learnt
 number-one κs args x y u v p q = (same p q, refl)

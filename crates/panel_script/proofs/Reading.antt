@@ -1,15 +1,11 @@
 -- A number read digit by digit.
 use Prim.Native.Nat.{ℕ, _+_, _-_, _*_, _/_, _%_, _≤_, _<_}
-use mathlib.Core.Path.{_≡_, ap, _∙_}
-use mathlib.Core.List.{List, foldl}
+use mathlib.Core.Path.{_≡_}
 use mathlib.Core.Bool.{Bool, true, false, _&&_}
 use native.Mathlib.Nat.{div-lt-iff-lt-mul, le-div-iff-mul-le, mod-lt}
-use native.Mathlib.Numerals.{add-one}
 use native.Mathlib.Omega.{arith}
 use borrow.Author.Tests.{lt-ltb, le-ltb, le-leb, lt-leb}
 use lib.Dec.{ltb, leb}
-use lib.ListN.{length, getD, drop, drop-of-length-le}
-use lib.Seq.{drop-cons}
 use Rattle.panel_script.specs.declared.numbers.Number.{Number}
 use Rattle.panel_script.specs.Numbers.{digitValue, noNumber, next}
 
@@ -56,11 +52,3 @@ module _ (base most : ℕ) (n : Number) (byte : ℕ) where
     next-is h k =
         let k' : leb (n .value * base + digitValue byte) most ≡ true = le-leb (n .value * base + digitValue byte) most (omega arith) in
         simp (g, lt-ltb (digitValue byte) base (omega arith), k', e)
-
--- A fold over a list from a place on.
-module _ {A : Type 0} (f : A → ℕ → A) (l : List ℕ) (i : ℕ) {n z : A} where
-  pub fold-next : {m : A} → i < length l → m ≡ f n (getD l i 0) → foldl f n (drop i l) ≡ z → foldl f m (drop (i + 1) l) ≡ z
-  fold-next h e inv = ap (λ x. foldl f x (drop (i + 1) l)) e ∙ (rw (add-one i) (rw (drop-cons l i 0 h) at inv))
-
-  pub fold-last : length l ≤ i → foldl f n (drop i l) ≡ z → n ≡ z
-  fold-last h inv = rw (drop-of-length-le l h) at inv

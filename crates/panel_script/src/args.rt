@@ -14,6 +14,7 @@ const MAX_COUNT: usize = 255;
 pub struct Listed {
     pub params: Params,
     pub good: bool,
+    pub long: bool,
 }
 
 // Whether a line has exactly n words.
@@ -86,6 +87,7 @@ pub fn params(line: &[u8], k: usize) -> Listed {
     Listed {
         params,
         good: read.good,
+        long: read.long,
     }
 }
 

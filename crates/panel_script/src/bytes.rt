@@ -6,18 +6,20 @@ use crate::numbers;
 use crate::numbers::Number;
 use crate::words;
 
-// How many bytes a buffer got, or none: then it is 0 and not good.
+// How many bytes a buffer got, or none: then it is 0 and not good, and long where only the room is missing.
 pub struct Expanded {
     pub count: usize,
     pub good: bool,
+    pub long: bool,
 }
 
-fn refused() -> Expanded
+fn refused(long: bool) -> Expanded
     ensures { λ r. ⌜ r .count ≡ 0 ⌝ }
 {
     Expanded {
         count: 0,
         good: false,
+        long,
     }
 }
 
@@ -78,26 +80,27 @@ fn put_piece(piece: &[u8], out: &mut [u8], at: usize) -> Expanded
     let size = digits.len() / 2;
     let often = times(piece, digits.len());
     if size == 0 {
-        return refused();
+        return refused(false);
     }
     if digits.len() % 2 != 0 {
-        return refused();
+        return refused(false);
     }
     if !often.good | !all_hex(digits) {
-        return refused();
+        return refused(false);
     }
     if out.len() < at {
-        return refused();
+        return refused(true);
     }
     let count = often.value as usize;
     if (out.len() - at) / size < count {
-        return refused();
+        return refused(true);
     }
     let total = count * size;
     put_pairs(digits, size, out, at, total);
     Expanded {
         count: at + total,
         good: true,
+        long: false,
     }
 }
 
@@ -109,6 +112,7 @@ pub fn expand(word: &[u8], out: &mut [u8]) -> Expanded
         return Expanded {
             count: 0,
             good: true,
+            long: false,
         };
     }
     let mut used = 0;
@@ -117,7 +121,7 @@ pub fn expand(word: &[u8], out: &mut [u8]) -> Expanded
         let piece = words::before(words::tail(word, at), b',');
         let put = put_piece(piece, out, used);
         if !put.good {
-            return refused();
+            return refused(put.long);
         }
         used = put.count;
         at = at + piece.len() + 1;
@@ -125,5 +129,6 @@ pub fn expand(word: &[u8], out: &mut [u8]) -> Expanded
     Expanded {
         count: used,
         good: true,
+        long: false,
     }
 }

@@ -1,7 +1,7 @@
 // The calls that change the panel.
 use crate::args;
-use crate::bytes::Expanded;
 use crate::checks;
+use crate::checks::Sense;
 use crate::entries;
 use crate::looks;
 use crate::names;
@@ -18,21 +18,25 @@ pub struct Lent {
     pub view: usize,
 }
 
-// The bytes of a transfer, into a buffer; none for any other call. Not good where the line makes no sense.
-pub fn read(name: Name, line: &[u8], traced: u8, warned: u8, bytes: &mut [u8]) -> Expanded {
-    let sensible = checks::good(name, line, traced, warned);
+// How many bytes a line has for a transfer, and what sense it makes.
+pub struct Reading {
+    pub count: usize,
+    pub sense: Sense,
+}
+
+// The bytes of a transfer go to a buffer; any other call has none.
+pub fn read(name: Name, line: &[u8], traced: u8, warned: u8, bytes: &mut [u8]) -> Reading {
+    let sense = checks::sense_of(name, line, traced, warned);
     match name {
         Name::Transfer | Name::Bare => {
             let list = args::list(line, 4, bytes);
-            Expanded {
+            let sense = checks::first(sense, checks::listed(list.good, list.long));
+            Reading {
                 count: list.count,
-                good: sensible & list.good,
+                sense,
             }
         }
-        _ => Expanded {
-            count: 0,
-            good: sensible,
-        },
+        _ => Reading { count: 0, sense },
     }
 }
 
@@ -122,7 +126,7 @@ fn print_taken(warnings: [Warning; 128], count: u8) {
     let mut out = [0u8; 5000];
     let used = report::put_warnings(&mut out, 0, warnings, count);
     print::line(b"taken", &[count as u64]);
-    print::show(&out, used);
+    print::show(1, &out, used);
 }
 
 fn take_warnings(c: Controller) -> Controller {

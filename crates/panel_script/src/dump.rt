@@ -1,6 +1,5 @@
 // The panel at the end: the report, what is in force, the stored lists, and digests of every number.
 use crate::args;
-use crate::digests;
 use crate::print;
 use board::PanelConfig;
 use board::Power;
@@ -17,7 +16,7 @@ use views::FrameView;
 
 fn print_digest(name: &[u8], numbers: &[u16]) {
     print::text(name);
-    digests::print(numbers);
+    print::digest(numbers);
 }
 
 fn print_view(c: Controller, view: FrameView, name: &[u8], memory: &[u16], seen: &mut [u16]) {
@@ -43,7 +42,7 @@ fn print_digests(c: Controller, memory: &[u16], frame: &[u16], buffer: &mut [u16
 fn print_report(controller: Controller) {
     let mut out = [0u8; 18000];
     let used = report::write_report(controller, &mut out);
-    print::show(&out, used);
+    print::show(1, &out, used);
 }
 
 fn print_ctl(power: Power, cfg: PanelConfig) {
@@ -51,6 +50,7 @@ fn print_ctl(power: Power, cfg: PanelConfig) {
         power.powered as u64,
         cfg.invon_shows_ram as u64,
         power.level as u64,
+        power.scale as u64,
         power.duty as u64,
     ];
     print::line(b"ctl", &ns);

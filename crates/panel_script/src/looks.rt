@@ -1,8 +1,8 @@
 // The calls that show something and change nothing.
 use crate::args;
-use crate::digests;
 use crate::dump;
 use crate::names::Name;
+use crate::picture;
 use crate::print;
 use crate::words;
 use boot::BootCheck;
@@ -54,13 +54,29 @@ fn print_view(line: &[u8], status: Status, numbers: &[u16]) {
         return;
     }
     print_named(line);
-    digests::print(numbers);
+    print::digest(numbers);
 }
 
 // view V
 fn show_view(c: Controller, line: &[u8], memory: &[u16], buffer: &mut [u16]) {
     let status = views::frame(c, args::view(line), memory, buffer);
     print_view(line, status, buffer);
+}
+
+fn print_pixels(line: &[u8], status: Status, numbers: &[u16]) {
+    if !status::accepted(status) {
+        print::refusal(status);
+        return;
+    }
+    print_named(line);
+    print::text(b"\n");
+    picture::print(numbers);
+}
+
+// pixels V
+fn show_pixels(c: Controller, line: &[u8], memory: &[u16], buffer: &mut [u16]) {
+    let status = views::frame(c, args::view(line), memory, buffer);
+    print_pixels(line, status, buffer);
 }
 
 fn print_pixel(line: &[u8], status: Status, x: u16, y: u16, pixel: u16) {
@@ -92,7 +108,7 @@ fn print_row(line: &[u8], row: u64, numbers: &[u16]) {
         print::text(b" empty\n");
         return;
     }
-    digests::print(numbers);
+    print::digest(numbers);
 }
 
 fn row_from(line: &[u8]) -> Memory {
@@ -115,7 +131,7 @@ fn print_found(step: u8, record: TraceRecord) {
     print::text(b"boot");
     print::number(step as u64);
     print::text(b" ");
-    print::show(&out, used);
+    print::show(1, &out, used);
 }
 
 // boot
@@ -144,6 +160,7 @@ pub fn look<'a>(
 ) {
     match name {
         Name::View => show_view(c, line, memory, buffer),
+        Name::Pixels => show_pixels(c, line, memory, buffer),
         Name::Pixel => show_pixel(c, line, memory),
         Name::Row => show_row(line, memory, frame),
         Name::Boot => {

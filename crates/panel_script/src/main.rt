@@ -3,6 +3,7 @@ ghost use mathlib.Core.Path.{_≡_};
 ghost use Prim.Native.Nat.{_≤_};
 ghost use lib.ListN.{length};
 use calls::Lent;
+use checks::Sense;
 use names::Name;
 use st7789::Controller;
 use status::PANEL_PIXELS;
@@ -11,21 +12,24 @@ mod args;
 mod bytes;
 mod calls;
 mod checks;
-mod digests;
 mod dump;
 mod entries;
 mod looks;
 mod names;
 mod numbers;
 mod parts;
+mod picture;
 mod print;
 mod words;
 
-// A longer script is run up to the last line that ends within so many bytes; the next line is bad.
+// A longer script is run up to the last line that ends within so many bytes; the next line is bad. A longer list of scripts is
+// not run.
 const MAX_SCRIPT: usize = 1048576;
 
-fn cut(script: &[u8], end: usize) -> bool {
-    (MAX_SCRIPT < script.len()) & (MAX_SCRIPT <= end)
+// Too long where a line ends past what a script may have.
+fn within(script: &[u8], end: usize) -> Sense {
+    let cut = (MAX_SCRIPT < script.len()) & (MAX_SCRIPT <= end);
+    checks::good_if(!cut, Sense::TooLong)
 }
 
 // What a call leaves of the panel, with as much of memory, frame and view as it is lent.
@@ -61,7 +65,15 @@ fn call(
     )
 }
 
-fn run(script: &[u8], bytes: &mut [u8], memory: &mut [u16], frame: &mut [u16], view: &mut [u16]) {
+// Runs a script; `head` is the line that begins it in a list, or nothing.
+fn run(
+    head: &[u8],
+    script: &[u8],
+    bytes: &mut [u8],
+    memory: &mut [u16],
+    frame: &mut [u16],
+    view: &mut [u16],
+) {
     let mut c = Controller::fresh(true);
     let mut lent = Lent {
         memory: PANEL_PIXELS,
@@ -75,10 +87,12 @@ fn run(script: &[u8], bytes: &mut [u8], memory: &mut [u16], frame: &mut [u16], v
         let line = words::before(whole, b'#');
         let end = at + whole.len();
         let name = names::name_of(line);
-        let list = calls::read(name, line, c.logs.traced, c.logs.warned, bytes);
+        let read = calls::read(name, line, c.logs.traced, c.logs.warned, bytes);
+        let sense = read.sense;
+        let sense = checks::first(within(script, end), sense);
         number += 1;
-        if cut(script, end) | !list.good {
-            print::bad_line(number);
+        if !checks::good(sense) {
+            print::bad_line(head, number, sense);
             return;
         }
         lent = calls::lend(lent, name, line);
@@ -86,7 +100,7 @@ fn run(script: &[u8], bytes: &mut [u8], memory: &mut [u16], frame: &mut [u16], v
             c,
             name,
             line,
-            words::head(bytes, list.count),
+            words::head(bytes, read.count),
             lent,
             memory,
             frame,
@@ -97,22 +111,28 @@ fn run(script: &[u8], bytes: &mut [u8], memory: &mut [u16], frame: &mut [u16], v
     dump::print(c, memory, frame, view);
 }
 
-fn start(script: &[u8]) {
+fn start(head: &[u8], script: &[u8]) {
     let mut bytes = [0u8; 65537];
     let mut memory = [0u16; 76801];
     let mut frame = [0u16; 76801];
     let mut view = [0u16; 76801];
-    run(script, &mut bytes, &mut memory, &mut frame, &mut view);
+    run(head, script, &mut bytes, &mut memory, &mut frame, &mut view);
 }
 
-// How much of a text stands before the next line whose first word is `case`.
+// Whether a line begins a case: `case NAME`.
+fn begins_case(line: &[u8]) -> bool {
+    let words = words::before(line, b'#');
+    args::has(words, 2) & args::is(words, 0, b"case")
+}
+
+// How much of a text stands before the next line that begins a case.
 fn case_size(text: &[u8]) -> usize
     ensures { λ r. ⌜ r ≤ length (now (text .entry)) ⌝ }
 {
     let mut at = 0;
     while at < text.len() {
         let line = words::before(words::tail(text, at), b'\n');
-        if args::is(line, 0, b"case") {
+        if begins_case(line) {
             return at;
         }
         at = at + line.len() + 1;
@@ -129,9 +149,45 @@ fn run_cases(text: &[u8]) {
         let size = case_size(rest);
         io::write_all(1, line);
         io::write_all(1, b"\n");
-        start(&rest[..size]);
+        start(line, &rest[..size]);
         at = at + line.len() + 1 + size;
     }
+}
+
+// A list of scripts, if it is one.
+fn run_list(text: &[u8]) {
+    if MAX_SCRIPT < text.len() {
+        io::write_all(
+            2,
+            b"panel-script: a list of scripts has at most 1048576 bytes\n",
+        );
+        return;
+    }
+    if !begins_case(words::before(text, b'\n')) {
+        print::bad_line(b"", 1, Sense::NoCase);
+        return;
+    }
+    run_cases(text);
+}
+
+// What the arguments ask for: a script to run, a list of them, or nothing that there is.
+enum Asked {
+    Script,
+    Cases,
+    Nothing,
+}
+
+fn read_arguments() -> Asked {
+    let mut word = [0u8; 16];
+    let n = os::arg(1, &mut word);
+    let count = os::arg_count();
+    if count < 2 {
+        return Asked::Script;
+    }
+    if (count < 3) & words::is(&word[..n], b"cases") {
+        return Asked::Cases;
+    }
+    Asked::Nothing
 }
 
 // Room for one byte more than the longest script.
@@ -141,26 +197,22 @@ fn room() -> [u8; 1048577]
     [0; 1048577]
 }
 
-// What the arguments ask for: nothing, that the input is one script; `cases`, that it is a list of them.
-fn run_asked(text: &[u8]) {
-    let mut word = [0u8; 16];
-    let n = os::arg(1, &mut word);
-    if os::arg_count() < 2 {
-        start(text);
-        return;
+fn run_asked(asked: Asked, text: &[u8]) {
+    match asked {
+        Asked::Script => start(b"", text),
+        Asked::Cases => run_list(text),
+        Asked::Nothing => {
+            io::write_all(
+                2,
+                b"panel-script: takes no words, or the word `cases` for a list of scripts\n",
+            );
+        }
     }
-    if words::is(&word[..n], b"cases") {
-        run_cases(text);
-        return;
-    }
-    io::write_all(
-        2,
-        b"panel-script: reads a script from standard input, or with the word `cases` a list of them\n",
-    );
 }
 
 fn main() {
+    let asked = read_arguments();
     let mut text = room();
     let n = io::read_full(0, &mut text);
-    run_asked(&text[..n]);
+    run_asked(asked, &text[..n]);
 }

@@ -20,6 +20,7 @@ pub enum Name {
     Lend,
     Dump,
     Set,
+    Pixels,
     Unknown,
 }
 
@@ -59,7 +60,7 @@ pub fn name_of(line: &[u8]) -> Name {
     match args::place(
         line,
         0,
-        b"transfer bare power switch brightness mark-all take-warnings reset fresh publish view pixel row boot lend dump set",
+        b"transfer bare power switch brightness mark-all take-warnings reset fresh publish view pixel row boot lend dump set pixels",
     ) {
         0 => Name::Transfer,
         1 => Name::Bare,
@@ -78,6 +79,7 @@ pub fn name_of(line: &[u8]) -> Name {
         14 => Name::Lend,
         15 => Name::Dump,
         16 => Name::Set,
+        17 => Name::Pixels,
         _ => Name::Unknown,
     }
 }
@@ -114,5 +116,12 @@ pub fn field_of(line: &[u8]) -> Field {
         23 => Field::Memory,
         24 => Field::Frame,
         _ => Field::Unknown,
+    }
+}
+
+pub fn is_field(field: Field) -> bool {
+    match field {
+        Field::Unknown => false,
+        _ => true,
     }
 }

@@ -7,10 +7,10 @@ use Rattle.panel_script.proofs.case_size.Statement.{statement}
 use Rattle.panel_script.proofs.case_size.Tie as tie
 
 abbrev Inv-loop : tie.InvT-loop
-Inv-loop text at₀ literal at = Unit
+Inv-loop text at₀ at = Unit
 
 abbrev μ-loop : tie.MeasureT-loop
-μ-loop text at₀ literal at = length text - at
+μ-loop text at₀ at = length text - at
 
 loop-holds : tie.Need-loop-holds Inv-loop μ-loop
 loop-holds c = search needs
@@ -21,23 +21,20 @@ tail-requires c κs = search needs
 before-requires : tie.Need-before-requires Inv-loop μ-loop
 before-requires c κs = search needs
 
-slice-aggregate-is : tie.Need-slice-aggregate-is Inv-loop μ-loop
-slice-aggregate-is c = search needs
-
-is-requires : tie.Need-is-requires Inv-loop μ-loop
-is-requires c κs = search needs
+begins-case-requires : tie.Need-begins-case-requires Inv-loop μ-loop
+begins-case-requires c κs = search needs
 
 returns : tie.Need-returns Inv-loop μ-loop
-returns c = omega (arith, c .before .before .before .before .before .loop-test)
+returns c = omega (arith, c .before .before .before .before .loop-test)
 
 add-at : tie.Need-add-at Inv-loop μ-loop
-add-at c = omega (arith, c .before .before .before .before .before .before .before .before .good .0, c .before .before .before .before .before .loop-test, piece-within 10 (c .before .before .before .before .before .before .loop .at) (c .before .before .before .before .before .before .before .before .args .text .now) (c .before .before .before .before .tail .ensures) (c .before .before .before .before2 .ensures))
+add-at c = omega (arith, c .before .before .before .before .before .before .before .good .0, c .before .before .before .before .loop-test, piece-within 10 (c .before .before .before .before .before .loop .at) (c .before .before .before .before .before .before .before .args .text .now) (c .before .before .before .tail .ensures) (c .before .before .before2 .ensures))
 
 add-at-2 : tie.Need-add-at-2 Inv-loop μ-loop
-add-at-2 c = omega (arith, c .before .before .before .before .before .before .before .before .good .0, c .before .before .before .before .before .loop-test, piece-within 10 (c .before .before .before .before .before .before .loop .at) (c .before .before .before .before .before .before .before .before .args .text .now) (c .before .before .before .before .tail .ensures) (c .before .before .before .before2 .ensures))
+add-at-2 c = omega (arith, c .before .before .before .before .before .before .before .good .0, c .before .before .before .before .loop-test, piece-within 10 (c .before .before .before .before .before .loop .at) (c .before .before .before .before .before .before .before .args .text .now) (c .before .before .before .tail .ensures) (c .before .before .before2 .ensures))
 
 loop-less : tie.Need-loop-less Inv-loop μ-loop
-loop-less c = omega (arith, c .before .before .before .before .before .loop-test)
+loop-less c = omega (arith, c .before .before .before .before .loop-test)
 
 loop-again : tie.Need-loop-again Inv-loop μ-loop
 loop-again c = search needs
@@ -46,4 +43,4 @@ returns-2 : tie.Need-returns-2 Inv-loop μ-loop
 returns-2 c = search needs
 
 pub case-size-spec : {M : Type 1} → statement M
-case-size-spec = tie.close (tie.spec Inv-loop μ-loop loop-holds tail-requires before-requires slice-aggregate-is is-requires returns add-at add-at-2 loop-less loop-again returns-2)
+case-size-spec = tie.close (tie.spec Inv-loop μ-loop loop-holds tail-requires before-requires begins-case-requires returns add-at add-at-2 loop-less loop-again returns-2)

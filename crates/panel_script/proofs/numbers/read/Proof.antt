@@ -3,7 +3,7 @@ use mathlib.Core.Path.{_≡_, refl}
 use mathlib.Core.List.{foldl}
 use lib.ListN.{length, drop}
 use Rattle.panel_script.specs.Numbers.{next, zeroNumber}
-use Rattle.panel_script.proofs.Reading.{fold-next, fold-last}
+use Rattle.digests.proofs.Folds.{fold-next, fold-last}
 use borrow.Author.Needs.{needs}
 use Rattle.panel_script.proofs.numbers.read.Statement.{statement}
 use Rattle.panel_script.proofs.numbers.read.Tie as tie

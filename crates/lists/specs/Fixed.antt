@@ -1,14 +1,16 @@
--- A fixed list: a number of places, of which the first `count` are used.
+-- Rules: fixed lists.
 use Prim.Native.Nat.{ℕ, _+_}
 use mathlib.Core.Bool.{cond}
 use mathlib.Core.List.{List, foldl}
 use lib.ListN.{take, set}
 use lib.Dec.{ltb}
 
+-- "fixed lists .., each with a count of used ones": the first `count` places are used.
 pub record Fixed (A : Type 0) : Type 0 where
   pub count : ℕ
   pub places : List A
 
+-- "the used part of each list"
 abbrev pub used : {A : Type 0} → Fixed A → List A
 used f = take (f .count) (f .places)
 

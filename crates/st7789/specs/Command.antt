@@ -1,4 +1,4 @@
--- Document 01, "Commands" and "Lint": beginning a command, and the CS release.
+-- Rules: 01, "Commands" and "Lint": beginning a command, and the CS release.
 use Prim.Native.Nat.{ℕ, _+_}
 use mathlib.Core.Bool.{cond}
 use mathlib.Core.List.{List, map, foldl}
@@ -14,6 +14,7 @@ use Rattle.st7789.specs.Parts.{traceOf, warningsOf, withChip, withCounts
 use Rattle.st7789.specs.declared.Counts.{Counts}
 use Rattle.st7789.specs.declared.Controller.{Controller}
 
+-- The warning that c broke a rule at time t.
 abbrev pub warning : ℕ → ℕ → ℕ → Warning
 warning c t rule = record { at = t; rule = rule; cmd = c }
 
@@ -34,6 +35,7 @@ countsBegun c n =
       «dropped_params» = n .«dropped_params»;
     }
 
+-- The trace record of c, as it is at first.
 abbrev pub begunRecord : ℕ → ℕ → TraceRecord
 begunRecord c t = record { at = t; «pixel_bytes» = 0; params = noParams; cmd = c }
 

@@ -1,4 +1,4 @@
--- Document 01, "Commands", on data: in a run, for a command, or lost.
+-- Rules: 01, "Commands", on data: in a run, for a command, or lost.
 use Prim.Native.Nat.{ℕ, _+_}
 use mathlib.Core.Bool.{Bool, true, cond, _&&_}
 use mathlib.Core.List.{List, []}
@@ -30,6 +30,7 @@ abbrev pub onCurrent : (TraceRecord → TraceRecord) → Current → List TraceR
 onCurrent f Nothing records = records
 onCurrent f (At i) records = set records i (f (getD records i noRecord))
 
+-- The controller with other places of the trace.
 abbrev pub withRecords : List TraceRecord → Controller → Controller
 withRecords v s = withTrace (record { count = s .logs .traced; places = v }) (s .logs .current) s
 
@@ -45,9 +46,11 @@ moreParams bytes r = record { at = r .at; «pixel_bytes» = r .«pixel_bytes»; 
 abbrev pub walkOver : Controller → List ℕ → Walked
 walkOver s bytes = walkedOn (s .chip .window) (s .chip .registers .madctl) (unwalked (s .chip .walk) (s .marks .dirty)) bytes
 
+-- The chip with the walk put anew.
 abbrev pub walkedChip : Walk → Chip → Chip
 walkedChip k s = record { registers = s .registers; window = s .window; walk = k; decoder = s .decoder; times = s .times }
 
+-- "pixels_written + 1", n times.
 abbrev pub pixelsAdded : ℕ → Counts → Counts
 pixelsAdded n k =
     record {
@@ -57,6 +60,7 @@ pixelsAdded n k =
       «dropped_params» = k .«dropped_params»;
     }
 
+-- "the rest counted as dropped": n of them.
 abbrev pub droppedAdded : ℕ → Counts → Counts
 droppedAdded n k =
     record {
@@ -66,7 +70,7 @@ droppedAdded n k =
       «dropped_params» = k .«dropped_params» + n;
     }
 
--- "Data in a run": pixels, and what they leave of walk, count and span.
+-- "Data in a run: the current record's pixel bytes grow by the length; pairs form pixels": walk, count and span are what these leave.
 unfoldable pub ran : List ℕ → Controller → Controller
 ran bytes s =
     withDirty (walkOver s bytes .dirty)
@@ -79,6 +83,7 @@ abbrev pub storedAfter : ℕ → Params → List Stored → List Stored
 storedAfter c p l = set l (placeOf c) (record { present = true; params = p })
 
 -- "bytes fill up to 14, the rest counted as dropped; the current record gets the taken ones; then the command applies"
+-- "A stored command stores its list on every data segment"
 unfoldable pub taken : ℕ → List ℕ → Controller → Controller
 taken c bytes s =
     withStored (storedAfter c (filled (s .chip .decoder .params) bytes) (s .stored))
@@ -91,6 +96,7 @@ abbrev pub dataFor : InForce → List ℕ → Controller → Controller
 dataFor InForce.Nothing bytes s = s
 dataFor (Code c) bytes s = taken c bytes s
 
+-- "Data in a run", or "Data with a command and no run".
 abbrev pub dataIn : List ℕ → Controller → Controller
 dataIn bytes s = cond (s .chip .decoder .«in_pixels») (ran bytes s) (dataFor (s .chip .decoder .cmd) bytes s)
 

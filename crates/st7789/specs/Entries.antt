@@ -1,4 +1,4 @@
--- Document 01: what the public operations leave behind. "A refusal gives back the state it got .. and every lent number as before."
+-- Rules: 01, what the public operations leave behind.
 use Prim.Native.Nat.{ℕ}
 use mathlib.Core.Bool.{Bool, false, cond}
 use mathlib.Core.List.{List}
@@ -20,7 +20,7 @@ use Rattle.st7789.specs.Refusals.{transferRefusal, bareRefusal}
 use Rattle.st7789.specs.declared.Taken.{Taken}
 use Rattle.st7789.specs.declared.Controller.{Controller}
 
--- "Fresh: .. unpowered, .. level 0 scale 1, duty 0, span, counts and lists empty, .. the switch as asked"
+-- "Fresh: .. unpowered, .. level 0 scale 1 .., duty 0, span, counts and lists empty, nothing in force, the switch as asked"
 unfoldable pub freshController : Bool → Controller
 freshController shows =
     record {
@@ -45,39 +45,48 @@ moved t dc bytes cs s =
     let r : Controller = cond dc (dataIn bytes s) (begunAll t bytes s) in
     cond cs (released r) r
 
+-- The state after a transfer; refused, "A refusal gives back the state it got".
 unfoldable pub transferred : ℕ → Bool → List ℕ → Bool → ℕ → Controller → Controller
 transferred t dc bytes cs cells s = unlessRefused (transferRefusal s cells (length bytes)) (moved t dc bytes cs s) s
 
+-- Memory after a transfer; refused, "every lent number as before".
 unfoldable pub transferMemory : Bool → List ℕ → List ℕ → Controller → List ℕ
 transferMemory dc bytes memory s =
     unlessRefused (transferRefusal s (length memory) (length bytes)) (written memory (storesIn dc bytes s)) memory
 
+-- "a transfer without memory, whose state equals the full one's"
 unfoldable pub bareTransferred : ℕ → Bool → List ℕ → Bool → Controller → Controller
 bareTransferred t dc bytes cs s = unlessRefused (bareRefusal s (length bytes)) (moved t dc bytes cs s) s
 
+-- "Board rail: fresh with the switch kept, and all rows marked"; refused, "A refusal gives back the state it got".
 unfoldable pub resetState : BoardDomain → ℕ → Controller → Controller
 resetState domain cells s = unlessRefused (memoryRefusal cells) (railReset (isBoardRail domain) s) s
 
+-- "Board rail: fresh", so "memory zero"; refused, "every lent number as before".
 unfoldable pub resetMemory : BoardDomain → List ℕ → List ℕ
 resetMemory domain memory = unlessRefused (memoryRefusal (length memory)) (cond (isBoardRail domain) (zeroed memory) memory) memory
 
--- A panel made over lent memory.
+-- A panel made over lent memory: "Fresh: memory zero"; refused, "every lent number as before".
 unfoldable pub newMemory : List ℕ → List ℕ
 newMemory memory = unlessRefused (memoryRefusal (length memory)) (zeroed memory) memory
 
--- "Setting power, `invon_shows_ram`, brightness, mark-all and taking warnings are never refused."
+-- "Setting power, .. never refused."
 abbrev pub poweredSet : Bool → Controller → Controller
 poweredSet on s = withPower (poweredTo on (s .power)) s
 
+-- "Setting .. `invon_shows_ram`, .. never refused."
 abbrev pub showsSet : Bool → Controller → Controller
 showsSet shows s = withCfg (switchedTo shows) s
 
+-- "Setting .. brightness, .. never refused."
 abbrev pub brightnessSet : ℕ → ℕ → ℕ → Controller → Controller
 brightnessSet level scale duty s = withPower (litTo level scale duty (s .power)) s
 
+-- "Mark-all makes the span 0 to 319."
 abbrev pub allMarked : Controller → Controller
 allMarked s = withDirty allRows s
 
+-- "taking warnings are never refused.": they are handed over with their count, and none is left.
 abbrev pub warningsTaken : Controller → Taken
 warningsTaken s =
     record {

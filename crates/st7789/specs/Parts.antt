@@ -1,4 +1,5 @@
--- The controller's lists as fixed lists, and the controller with one part changed.
+-- Rules: the words in which the others are said: the controller's lists as fixed lists, and the controller with one part changed.
+-- None stands for a sentence of 01.
 use mathlib.Core.List.{List}
 use Rattle.pixels.specs.declared.Span.{Span}
 use Rattle.lists.specs.Fixed.{Fixed}
@@ -20,6 +21,7 @@ traceOf s = record { count = s .logs .traced; places = s .records }
 abbrev pub warningsOf : Controller → Fixed Warning
 warningsOf s = record { count = s .logs .warned; places = s .warnings }
 
+-- The controller of its parts.
 abbrev pub whole :
     PanelConfig → Power → Chip → Counts → Span → Logs → List Stored → List TraceRecord → List Warning → Controller
 whole cfg power chip counts dirty logs stored records warnings =
@@ -35,6 +37,7 @@ whole cfg power chip counts dirty logs stored records warnings =
       warnings = warnings;
     }
 
+-- The controller with one part put anew, each named after the part.
 abbrev pub withCfg : PanelConfig → Controller → Controller
 withCfg v s = whole v (s .power) (s .chip) (s .counts) (s .marks .dirty) (s .logs) (s .stored) (s .records) (s .warnings)
 

@@ -1,4 +1,4 @@
--- How the code looks at the current record, at a place that the list always has, and the logs of a begun command.
+-- Workshop: how the code looks at the current record, at a place that the list always has, and the logs of a begun command.
 use Prim.Native.Nat.{ℕ, _+_}
 use mathlib.Core.Bool.{Bool, false, cond, not, _||_}
 use mathlib.Core.List.{List}
@@ -23,6 +23,7 @@ use Rattle.st7789.specs.declared.Logs.{Logs}
 abbrev pub slotOf : ℕ → ℕ
 slotOf n = cond (ltb n 128) n 0
 
+-- The place of the current record, the first one where none is current.
 abbrev pub currentSlot : Current → ℕ
 currentSlot Nothing = 0
 currentSlot (At i) = slotOf i
@@ -48,7 +49,7 @@ partsBad chip stored dirty logs =
     (windowBad (chip .window) || (pointerBad (chip .walk .pointer) || tooLong (chip .decoder .params))) ||
     (some storedLong stored || (countBad (logs .traced) || (countBad (logs .warned) || spanBad dirty)))
 
--- The refusal of a transfer where the rest of the state is bad or not, by the record r that stands at the current one's place, by counts and by lengths.
+-- The refusal of a transfer: by what else is bad, the record at the current one's place, counts and lengths.
 abbrev pub judgedFor : Bool → Current → ℕ → TraceRecord → Params → Counts → ℕ → ℕ → ℕ
 judgedFor bad k n r q counts cells bytes =
     cond (bad || wrongFor k n (r .params) q) 1

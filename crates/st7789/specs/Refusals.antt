@@ -1,4 +1,4 @@
--- Document 01's table of refusals: when each is given.
+-- Rules: 01's table of refusals, when each is given.
 use Prim.Native.Nat.{ℕ, _+_}
 use mathlib.Core.Bool.{Bool, false, cond, not, _||_}
 use mathlib.Core.List.{List}
@@ -27,7 +27,7 @@ currentBad Nothing s = false
 currentBad (At i) s =
     not (eqb (i + 1) (s .logs .traced)) || differ (getD (s .records) i noRecord .params) (s .chip .decoder .params)
 
--- BAD_STATE
+-- BAD_STATE, each clause: "a window corner or pointer coordinate is above 319; .. or its parameters differ from those in force"
 unfoldable pub badState : Controller → Bool
 badState s =
     windowBad (s .chip .window) ||
@@ -38,12 +38,13 @@ badState s =
     (countBad (s .logs .warned) ||
     (some recordLong (used (traceOf s)) || (spanBad (s .marks .dirty) || currentBad (s .logs .current) s)))))))
 
--- The current trace record's pixel bytes, 0 where none is current.
+-- "the current trace record's pixel bytes", 0 where none is current.
 abbrev pub pixelsHeld : Current → List TraceRecord → ℕ
 pixelsHeld Nothing records = 0
 pixelsHeld (At i) records = getD records i noRecord .«pixel_bytes»
 
--- COUNT_HIGH
+-- COUNT_HIGH: "before a transfer, one of commands, ramwr_count, pixels_written, dropped_params, or the current trace record's pixel bytes
+-- is above 2^63"
 unfoldable pub countHigh : Controller → Bool
 countHigh s =
     countsHigh (s .counts .commands) (s .counts .«ramwr_count») (s .counts .«pixels_written») (s .counts .«dropped_params»)
@@ -53,6 +54,6 @@ countHigh s =
 unfoldable pub transferRefusal : Controller → ℕ → ℕ → ℕ
 transferRefusal s cells bytes = cond (badState s) 1 (transferTests cells bytes (countHigh s))
 
--- The same without memory.
+-- The same without memory: "each entry making those that concern its arguments".
 unfoldable pub bareRefusal : Controller → ℕ → ℕ
 bareRefusal s bytes = cond (badState s) 1 (cond (ltb 65536 bytes) 4 (cond (countHigh s) 5 0))

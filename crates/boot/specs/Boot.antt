@@ -1,4 +1,4 @@
--- Document 01, "Boot comparison".
+-- Rules: 01, "Boot comparison".
 use Prim.Native.Nat.{ℕ, _+_, _-_}
 use mathlib.Core.Bool.{Bool, cond, not, _&&_}
 use mathlib.Core.List.{List, [], _∷_}
@@ -12,14 +12,16 @@ use Rattle.boot.specs.declared.BootCheck.{BootCheck}
 use Rattle.boot.specs.declared.BootCheck.the-variants.{Match, Differs, Missing}
 use Rattle.boot.specs.declared.Compared.{Compared}
 
--- A step's command and parameters. Two lists of parameters differ if their counts do, and every row counts at most 14:
--- so "A record counting over 14 parameters differs from every step."
+-- A step is none "whose command or parameters differ". Two lists of parameters differ if their counts do, and every row counts at most
+-- 14: so "A record counting over 14 parameters differs from every step."
 unfoldable pub fits : BootStep → TraceRecord → Bool
 fits s r = eqb (s .cmd) (r .cmd) && not (differ (s .params) (r .params))
 
+-- What stands for the record found where none is.
 abbrev pub emptyRecord : TraceRecord
 emptyRecord = record { at = 0; «pixel_bytes» = 0; params = noParams; cmd = 0 }
 
+-- An answer of its two parts.
 abbrev pub answered : BootCheck → TraceRecord → Compared
 answered check found = record { check = check; found = found }
 
@@ -29,6 +31,7 @@ comparedFrom k [] records = answered Match emptyRecord
 comparedFrom k (s ∷ steps) [] = answered (Missing k) emptyRecord
 comparedFrom k (s ∷ steps) (r ∷ records) = cond (fits s r) (comparedFrom (k + 1) steps records) (answered (Differs k) r)
 
+-- "The comparison reads a lent list of trace records of any length", from the first step on.
 abbrev pub compared : List TraceRecord → Compared
 compared records = comparedFrom 1 bootSequence records
 
@@ -38,6 +41,7 @@ judgedBy Match c r = c
 judgedBy (Differs k) c r = c
 judgedBy (Missing k) c r = comparedFrom k (drop (k - 1) bootSequence) (r ∷ [])
 
+-- "judges one record taken by value"
 abbrev pub judged : Compared → TraceRecord → Compared
 judged c r = judgedBy (c .check) c r
 

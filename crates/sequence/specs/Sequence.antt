@@ -1,4 +1,4 @@
--- Document 01, "Boot comparison": the steps.
+-- Rules: 01, "Boot comparison": the steps.
 use Prim.Native.Nat.{ℕ, _-_}
 use mathlib.Core.List.{List, [], _∷_, _++_}
 use lib.ListN.{length, replicate}

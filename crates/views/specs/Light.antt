@@ -1,4 +1,4 @@
--- Document 01, "Fresh panel, views, publishing": what a pixel of memory looks like, dimmed or not.
+-- Rules, and at the end what only a proof needs. 01, "Fresh panel, views, publishing": what a pixel of memory looks like, dimmed or not.
 use Prim.Native.Nat.{ℕ, _-_, _*_, _/_, _%_, _^_, _<_, min}
 use mathlib.Core.Path.{_≡_}
 use mathlib.Core.Bool.{cond, not, _&&_, Bool·beq}
@@ -15,18 +15,15 @@ use Rattle.views.specs.declared.FrameView.the-variants.{Raw, Glass, Perc
 abbrev pub scaled : ℕ → ℕ → ℕ → ℕ
 scaled channel level scale = cond (eqb scale 0) 0 (min (channel * level / scale) (2 ^ 32 - 1))
 
--- A table of what each value of a channel becomes.
-abbrev pub allScaled : ℕ → ℕ → List ℕ → Type 0
-allScaled level scale values = (k : ℕ) → k < 64 → getD values k 0 ≡ scaled k level scale
-
--- "the low 16 bits of each, shifted by 11, 5, 0 within 16 bits, are joined by or"
+-- "the low 16 bits of each, shifted by 11, 5, 0 within 16 bits"
 abbrev pub shifted : ℕ → ℕ → ℕ
 shifted channel by = channel % 65536 * 2 ^ by % 65536
 
+-- "are joined by or"
 abbrev pub joined : ℕ → ℕ → ℕ → ℕ
 joined red green blue = bitOr (bitOr (shifted red 11) (shifted green 5)) (shifted blue 0)
 
--- "level 0 gives 0"; red is the upper five bits of a pixel, green the six below, blue the lower five.
+-- "level 0 gives 0"; "each channel": red is the upper five bits of a pixel, green the six below, blue the lower five.
 unfoldable pub dimmed : ℕ → ℕ → ℕ → ℕ
 dimmed pixel level scale =
     cond (eqb level 0) 0
@@ -51,3 +48,7 @@ unfoldable pub viewed : FrameView → Light → ℕ → ℕ
 viewed Raw l raw = raw
 viewed Glass l raw = glassOf l raw
 viewed Perceived l raw = dimmed (glassOf l raw) (l .level) (l .scale)
+
+-- Workshop: a table of what each value of a channel becomes.
+abbrev pub allScaled : ℕ → ℕ → List ℕ → Type 0
+allScaled level scale values = (k : ℕ) → k < 64 → getD values k 0 ≡ scaled k level scale

@@ -1,4 +1,4 @@
--- Document 01, "Fresh panel, views, publishing": one pixel of a view, a whole view, and a row lent out of memory.
+-- Rules: 01, "Fresh panel, views, publishing": one pixel of a view, a whole view, and a row lent out of memory.
 use Prim.Native.Nat.{ℕ, _+_, _*_}
 use mathlib.Core.Bool.{Bool, cond, not, _&&_}
 use mathlib.Core.List.{List, [], map}
@@ -12,28 +12,29 @@ use Rattle.views.specs.declared.FrameView.{FrameView}
 use Rattle.views.specs.declared.Memory.{Memory}
 use Rattle.views.specs.declared.Memory.the-variants.{Panel, Frame}
 
--- "A pixel asked for outside the panel is 0, not refused."
+-- "A pixel asked for outside the panel is 0, not refused."; refused, "no value (0 where a number is due)".
 unfoldable pub pixelSeen : FrameView → Controller → ℕ → ℕ → List ℕ → ℕ
 pixelSeen view s x y memory =
     unlessRefused (memoryRefusal (length memory))
     (cond (ltb x 240 && ltb y 320) (viewed view (lightOf s) (getD memory (y * 240 + x) 0)) 0) 0
 
--- BAD_MEMORY, then BAD_FRAME.
+-- BAD_MEMORY: "panel memory isn't 76,800 numbers"; then BAD_FRAME: "frame or view buffer isn't 76,800 numbers".
 abbrev pub frameRefusal : ℕ → ℕ → ℕ
 frameRefusal cells room = cond (not (eqb cells 76800)) 2 (cond (not (eqb room 76800)) 3 0)
 
--- A whole view, pixel by pixel.
+-- A whole view, pixel by pixel; refused, "every lent number as before".
 unfoldable pub frameSeen : FrameView → Controller → List ℕ → List ℕ → List ℕ
 frameSeen view s memory buffer = unlessRefused (frameRefusal (length memory) (length buffer)) (map (viewed view (lightOf s)) memory) buffer
 
--- "a row of the panel or of the frame, as they pick, lent straight out of that memory ..; an empty part exactly when either isn't 76,800
--- long or the row is above 319"
+-- "of the panel or of the frame, as they pick"
 abbrev pub picked : Memory → List ℕ → List ℕ → List ℕ
 picked Panel panel frame = panel
 picked Frame panel frame = frame
 
+-- "exactly when either isn't 76,800 long or the row is above 319"
 abbrev pub rowRefused : ℕ → ℕ → ℕ → Bool
 rowRefused row panel frame = not (eqb panel 76800 && (eqb frame 76800 && ltb row 320))
 
+-- "a row of the panel or of the frame, .. lent straight out of that memory and not copied; an empty part exactly when" it is refused.
 unfoldable pub rowSeen : Memory → ℕ → List ℕ → List ℕ → List ℕ
 rowSeen memory row panel frame = cond (rowRefused row (length panel) (length frame)) [] (take 240 (drop (row * 240) (picked memory panel frame)))

@@ -1,4 +1,4 @@
--- Lines of text: words, numbers and hex bytes, parted by spaces.
+-- Rules: lines of text: words, numbers and hex bytes, parted by spaces.
 use Prim.Native.Nat.{ℕ}
 use Prim.Native.Char.{code}
 use Prim.Native.String.{String, [], _∷_}
@@ -15,16 +15,19 @@ unfoldable pub texts : {A : Type 0} → (A → List ℕ) → List A → List ℕ
 texts f none = none
 texts f (x then xs) = f x ++ texts f xs
 
--- "Numbers are decimal but for hex bytes." Each stands after a space.
+-- "Numbers are decimal": after a space.
 abbrev pub number : ℕ → List ℕ
 number n = ascii " " ++ decimal n
 
+-- "in hex after a space"
 abbrev pub hexByte : ℕ → List ℕ
 hexByte b = ascii " " ++ hexDigits 2 b
 
+-- Several numbers.
 abbrev pub numbers : List ℕ → List ℕ
 numbers ns = texts number ns
 
+-- Several bytes.
 abbrev pub hexBytes : List ℕ → List ℕ
 hexBytes bs = texts hexByte bs
 

@@ -1,5 +1,5 @@
--- Document 01's example of a log, and logs at the edges of the refusals, as rows of one table: a log, its refusal, its offset, and
--- the transfers of an accepted one.
+-- Examples: 01's example of a log, and logs at the edges of the refusals, as rows of one table: a log, its refusal, its offset, and the
+-- transfers of an accepted one.
 use Prim.Native.Nat.{ℕ}
 use mathlib.Core.Bool.{true, false, cond}
 use mathlib.Core.List.{List, [], _∷_, _++_}
@@ -7,6 +7,7 @@ use lib.ListN.{replicate}
 use lib.Dec.{eqb}
 use Rattle.logs.specs.Log.{Segment, segments, logRefusal, badOffset}
 
+-- A row of the table.
 pub record Row : Type 0 where
   pub log : List ℕ
   pub refusal : ℕ
@@ -27,6 +28,7 @@ computed row =
 abbrev pub ramwr : List ℕ
 ramwr = 0x00 ∷ (replicate 8 0x00 ++ (0x00 ∷ 0x01 ∷ 0x2C ∷ []))
 
+-- The table.
 unfoldable pub rows : List Row
 rows =
     -- "00 0000000000000000 0001 2c 03 0000000000000000 0003 f8 00 07": RAMWR, then three bytes of data and a CS release

@@ -1,4 +1,4 @@
--- The stored form of a log of transfers: document 01, "The log and its program".
+-- Rules: 01, "The log and its program": the stored form of a log of transfers.
 use Prim.Native.Nat.{ℕ, zero, suc, _+_, _-_, _*_, _/_, _%_, min}
 use mathlib.Core.Bool.{Bool, cond, not, _||_}
 use mathlib.Core.List.{List, [], _∷_, _++_, map, foldl}
@@ -14,11 +14,12 @@ pub record Segment : Type 0 where
   pub release : Bool
   pub bytes : List ℕ
 
--- "big-endian": a number as so many bytes, the high byte first; and the number that bytes say.
+-- "big-endian": a number as so many bytes, the high byte first.
 abbrev pub bigEndian : ℕ → ℕ → List ℕ
 bigEndian zero n = []
 bigEndian (suc width) n = bigEndian width (n / 256) ++ (n % 256 ∷ [])
 
+-- "big-endian": the number that bytes say.
 abbrev pub valueOf : List ℕ → ℕ
 valueOf bytes = foldl (λ v b. v * 256 + b) 0 bytes
 
@@ -30,27 +31,32 @@ tagOf dc release = cond dc 1 0 + cond release 2 0
 unfoldable pub encoded : Segment → List ℕ
 encoded s = tagOf (s .dc) (s .release) ∷ (bigEndian 8 (s .time) ++ (bigEndian 2 (length (s .bytes)) ++ s .bytes))
 
+-- The records of transfers, one behind the other.
 abbrev pub logOf : List Segment → List ℕ
 logOf [] = []
 logOf (s ∷ ss) = encoded s ++ logOf ss
 
--- Reading: what the first record of the bytes `rest` says. Its header is 11 bytes.
+-- "length 2 bytes": of the first record of the bytes `rest`, behind tag and time.
 abbrev pub bodyLength : List ℕ → ℕ
 bodyLength rest = valueOf (take 2 (drop 9 rest))
 
+-- "tag .., time 8 bytes, length 2 bytes, .. then the bytes": 11 bytes and those.
 abbrev pub recordLength : List ℕ → ℕ
 recordLength rest = 11 + bodyLength rest
 
--- What a tag says: 1 is data, and 2 is added for CS release.
+-- "0 command, 1 data"
 abbrev pub dcOf : ℕ → Bool
 dcOf tag = not (eqb (bitAnd tag 1) 0)
 
+-- "add 2 for CS release"
 abbrev pub releaseOf : ℕ → Bool
 releaseOf tag = not (eqb (bitAnd tag 2) 0)
 
+-- "time 8 bytes": of the first record of the bytes `rest`, behind the tag.
 abbrev pub timeOf : List ℕ → ℕ
 timeOf rest = valueOf (take 8 (drop 1 rest))
 
+-- What the first record of the bytes `rest` says.
 unfoldable pub segmentOf : List ℕ → Segment
 segmentOf rest =
     record {
@@ -70,6 +76,7 @@ recordsIn zero rest = []
 recordsIn (suc turns) [] = []
 recordsIn (suc turns) (b ∷ rest) = (b ∷ rest) ∷ recordsIn turns (drop (recordLength (b ∷ rest)) (b ∷ rest))
 
+-- The same with turns enough.
 unfoldable pub records : List ℕ → List (List ℕ)
 records log = recordsIn (length log) log
 
@@ -82,10 +89,11 @@ abbrev pub firstBad : List (List ℕ) → List ℕ
 firstBad [] = []
 firstBad (rest ∷ rests) = cond (recordBad rest) rest (firstBad rests)
 
+-- The same of a log.
 abbrev pub fromBad : List ℕ → List ℕ
 fromBad log = firstBad (records log)
 
--- LOG_LONG, "a log is above 65,536 bytes", then BAD_LOG.
+-- LOG_LONG: "a log is above 65,536 bytes"; then BAD_LOG: "a log record has a tag above 3 or is cut short".
 unfoldable pub logRefusal : List ℕ → ℕ
 logRefusal log = cond (ltb 65536 (length log)) 6 (cond (eqb (length (fromBad log)) 0) 0 7)
 

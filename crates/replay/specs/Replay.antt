@@ -1,4 +1,4 @@
--- Document 01, "The log and its program".
+-- Rules: 01, "The log and its program": a log replayed, and printed.
 use Prim.Native.Nat.{ℕ}
 use mathlib.Core.Bool.{true}
 use mathlib.Core.List.{List, [], _∷_, foldl}

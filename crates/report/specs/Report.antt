@@ -1,4 +1,4 @@
--- Document 01, "The log and its program": what the program prints of a panel.
+-- Rules: 01, "The log and its program": what the program prints of a panel.
 use Prim.Native.Nat.{ℕ}
 use mathlib.Core.Bool.{Bool, cond}
 use mathlib.Core.List.{List, [], _∷_, _++_}
@@ -20,6 +20,7 @@ use Rattle.boot.specs.declared.BootCheck.{BootCheck}
 use Rattle.boot.specs.declared.BootCheck.the-variants.{Match, Differs, Missing}
 use Rattle.lines.specs.Lines.{ascii, texts, numbers, hexBytes, newline, line}
 
+-- A flag as a number.
 abbrev pub flag : Bool → ℕ
 flag b = cond b 1 0
 
@@ -64,6 +65,7 @@ traceLine r =
     ++ hexBytes (listed (r .params))
     ++ newline
 
+-- The first three lines.
 unfoldable pub chipLines : Chip → Counts → ℕ → List ℕ
 chipLines k n warned = regsLine (k .registers) ++ winLine (k .window) (k .walk .pointer) ++ cntLine n warned
 

@@ -1,4 +1,4 @@
--- Numbers as text: document 01, "Numbers are decimal but for hex bytes."
+-- Rules: 01, "Numbers are decimal but for hex bytes."
 use Prim.Native.Nat.{ℕ, zero, suc, _+_, _/_, _%_, min}
 use mathlib.Core.Bool.{cond}
 use mathlib.Core.List.{List, [], _∷_, _++_, map}
@@ -18,10 +18,10 @@ unfoldable pub size : ℕ → ℕ → ℕ
 size zero n = 0
 size (suc most) n = cond (ltb n 10) 1 (suc (size most (n / 10)))
 
--- A number without leading zeros. 20 digits at most: no 64-bit number has more.
+-- "Numbers are decimal": without leading zeros. 20 digits at most: no 64-bit number has more.
 unfoldable pub decimal : ℕ → List ℕ
 decimal n = map digitCode (digits 10 (size 20 n) n)
 
--- The last `width` hex digits of a number. 16 at most: no 64-bit number has more.
+-- "hex bytes": the last `width` hex digits of a number. 16 at most: no 64-bit number has more.
 unfoldable pub hexDigits : ℕ → ℕ → List ℕ
 hexDigits width n = map digitCode (digits 16 (min width 16) n)

@@ -1,4 +1,4 @@
--- Text read as a number: what the theorems of proofs/Meaning go by.
+-- Rules: text read as a number, the words in which the theorems about `decimal` and `hexDigits` are said.
 use Prim.Native.Nat.{ℕ, _+_, _-_, _*_, _≤_}
 use mathlib.Core.Bool.{cond}
 use mathlib.Core.List.{List, [], _∷_, foldl}

@@ -1,4 +1,4 @@
--- A text under way: a buffer, and how much of it is used.
+-- Rules: a text under way: a buffer, and how much of it is used.
 use Prim.Native.Nat.{ℕ}
 use mathlib.Core.List.{List}
 use lib.ListN.{length}

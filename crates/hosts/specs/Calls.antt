@@ -1,4 +1,4 @@
--- Demand 3: a host, the calls it makes, and what each call does, by the definitions that the promises of the entries cite.
+-- Rules: demand 3, a host, the calls it makes, and what each call does, by the definitions that the promises of the entries cite.
 use Prim.Native.Nat.{ℕ}
 use mathlib.Core.Path.{_≡_}
 use mathlib.Core.Bool.{Bool, true, false}
@@ -14,7 +14,7 @@ use Rattle.views.specs.declared.FrameView.{FrameView}
 use Rattle.views.specs.declared.Memory.{Memory}
 use Rattle.publishing.specs.Publish.{publishRefusal, published, publishedFrame}
 
--- A panel, "whose memory only its own transfers and board-rail resets write, and [a] frame that only its own publishing writes".
+-- A panel, "whose memory only its own transfers and board-rail resets write, and an all-zero frame that only its own publishing writes".
 pub record Host : Type 0 where
   pub controller : Controller
   pub memory : List ℕ
@@ -22,7 +22,7 @@ pub record Host : Type 0 where
 
 -- Transfers, "every transfer with memory": a segment of commands or of data, its time, its bytes, and whether CS is released after it.
 -- `pixel`, `view`, `row` and `compare` only look: at a pixel, at a whole view (in a buffer of so many numbers that is neither memory nor
--- frame), at a row of one of the two memories, and at the trace beside the boot table. "Warnings aren't taken": there is no such call.
+-- frame), at a row of one of the two memories, and at the trace beside the boot table. "warnings aren't taken": there is no such call.
 pub data Call : Type 0 where
   commands : ℕ → List ℕ → Bool → Call
   segment : ℕ → List ℕ → Bool → Call
@@ -56,6 +56,7 @@ refusal h (view v room) = frameRefusal (length (h .memory)) room
 refusal h (row m r) = 0
 refusal h compare = 0
 
+-- A transfer over the host's own memory.
 abbrev pub transfer : ℕ → Bool → List ℕ → Bool → Host → Host
 transfer t dc bytes cs h =
     record {
@@ -93,6 +94,7 @@ step h (view v room) = h
 step h (row m r) = h
 step h compare = h
 
+-- Calls in turn.
 abbrev pub run : Host → List Call → Host
 run h calls = foldl step h calls
 

@@ -1,4 +1,4 @@
--- Demand 3: the calls of two hosts, the rows stored to since a publish, and what holds of the two.
+-- Rules: demand 3, the calls of two hosts, the rows stored to since a publish, and what holds of the two.
 use Prim.Native.Nat.{ℕ, _*_, _≤_}
 use mathlib.Core.Path.{_≡_}
 use mathlib.Core.Bool.{Bool, true, false, cond, _||_}
@@ -18,6 +18,7 @@ use Rattle.hosts.specs.Calls.{Host, Call, commands, segment, publish, re
 pub data Role : Type 0 where
   shared cut free : Role
 
+-- The role of each call.
 abbrev pub role : Call → Role
 role (commands t bytes cs) = shared
 role (segment t bytes cs) = cut
@@ -32,7 +33,7 @@ role (view v room) = free
 role (row m r) = free
 role compare = free
 
--- "data segments [cut] into other parts, at least one each, any CS release on the last": the calls that send `bytes` so, each part at a
+-- "cuts data segments into other parts, at least one each, any CS release on the last": the calls that send `bytes` so, each part at a
 -- time of its own and perhaps empty, with publishes and looks between.
 pub data Parts (cs : Bool) : List ℕ → List Call → Type 0 where
   rest : {t : ℕ} {bytes : List ℕ} → Parts cs bytes (segment t bytes cs ∷ [])
@@ -49,12 +50,13 @@ pub data Makes : List Call → List Call → Type 0 where
       {t : ℕ} {bytes : List ℕ} {cs : Bool} {agreed parts calls : List Call} → Parts cs bytes parts → Makes agreed calls →
       Makes (segment t bytes cs ∷ agreed) (parts ++ calls)
 
--- The calls of a host without those that are free.
+-- A call before others, left out where it is free.
 abbrev pub unlessFree : Role → Call → List Call → List Call
 unlessFree shared c calls = c ∷ calls
 unlessFree cut c calls = c ∷ calls
 unlessFree free c calls = calls
 
+-- The calls of a host without those that are free.
 abbrev pub owed : List Call → List Call
 owed [] = []
 owed (c ∷ calls) = unlessFree (role c) c (owed calls)
@@ -65,9 +67,11 @@ pub record Since : Type 0 where
   pub all : Bool
   pub rows : List ℕ
 
+-- Nothing stored and nothing marked.
 abbrev pub nothingSince : Since
 nothingSince = record { all = false; rows = [] }
 
+-- What is noted after one call more.
 unfoldable pub noted : Host → Since → Call → Since
 noted h s (commands t bytes cs) = s
 noted h s (segment t bytes cs) = record { all = s .all; rows = s .rows ++ map rowOf (storesIn true bytes (h .controller)) }
@@ -82,6 +86,7 @@ noted h s (view v room) = s
 noted h s (row m r) = s
 noted h s compare = s
 
+-- And after calls in turn.
 abbrev pub sinceFrom : Host → Since → List Call → Since
 sinceFrom h s [] = s
 sinceFrom h s (c ∷ calls) = sinceFrom (step h c) (noted h s c) calls
@@ -96,6 +101,7 @@ pub record Smallest (first last : ℕ) (rows : List ℕ) : Type 0 where
   pub first-among : List·Memᴰ first rows
   pub last-among : List·Memᴰ last rows
 
+-- The same of a span: the empty one holds no row.
 abbrev pub Hull : Span → List ℕ → Type 0
 Hull Nothing rows = rows ≡ []
 Hull (Rows first last) rows = Smallest first last rows
@@ -105,6 +111,7 @@ Hull (Rows first last) rows = Smallest first last rows
 abbrev pub Marked : Span → Since → Type 0
 Marked span s = cond (s .all) (span ≡ allRows) (Hull span (s .rows))
 
+-- A row of a memory or a frame.
 abbrev pub rowIn : ℕ → List ℕ → List ℕ
 rowIn r memory = take 240 (drop (r * 240) memory)
 
@@ -124,7 +131,8 @@ pub record Agree (a b : Host) : Type 0 where
 abbrev pub EveryMoment : Bool → List Call → Type 0
 EveryMoment on calls = (made left : List Call) → calls ≡ made ++ left → Moment (run (fresh on) made) (since on made)
 
--- What demand 3 promises of two hosts. The last publishes are no calls of theirs: that these are not refused is promised too.
+-- What demand 3 promises of two hosts, "and then a last publish at each". That publish is no call of theirs: that it is not refused is
+-- promised too.
 pub record Demand3 (on : Bool) (us vs : List Call) : Type 0 where
   pub last-a : refusal (run (fresh on) us) publish ≡ 0
   pub last-b : refusal (run (fresh on) vs) publish ≡ 0
@@ -132,7 +140,7 @@ pub record Demand3 (on : Bool) (us vs : List Call) : Type 0 where
   pub moments-a : EveryMoment on us
   pub moments-b : EveryMoment on vs
 
--- Either host may cut.
+-- "Two hosts each have a fresh panel, equally set": either may cut.
 abbrev pub TwoHosts : Type 0
 TwoHosts =
     (on : Bool) (agreed us vs : List Call) → Makes agreed us → Makes agreed vs → Accepted (fresh on) us → Accepted (fresh on) vs →

@@ -1,4 +1,4 @@
--- Two hosts for which demand 3 says something: what both have to do, and the calls of each.
+-- Examples: two hosts for which demand 3 says something: what both have to do, and the calls of each.
 use Prim.Native.Nat.{ℕ}
 use mathlib.Core.Bool.{Bool, true, false, _&&_}
 use mathlib.Core.List.{List, [], _∷_}
@@ -74,11 +74,12 @@ second =
     ∷ view Glass 76800
     ∷ []
 
--- What a host leaves to its last publish: row 9, stored to since the publish before, and not yet in the frame.
+-- Whether a span is these rows.
 abbrev pub isRows : ℕ → ℕ → Span → Bool
 isRows f l Nothing = false
 isRows f l (Rows first last) = eqb first f && eqb last l
 
+-- What a host leaves to its last publish: row 9, stored to since the publish before, and not yet in the frame.
 abbrev pub leftOver : Host → Bool
 leftOver h =
     isRows 9 9 (h .controller .marks .dirty) && (eqb (getD (h .memory) 2160 0) 0x1234 && eqb (getD (h .frame) 2160 0) 0)

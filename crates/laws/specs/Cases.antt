@@ -1,5 +1,5 @@
--- Document 01's table of refusals, case by case: states that no call reaches, each with one field at or past a limit, and the
--- number that a transfer over so many cells and bytes is given.
+-- Examples: 01's table of refusals, case by case: states that no call reaches, each with one field at or past a limit, and the number
+-- that a transfer over so many cells and bytes is given.
 use Prim.Native.Nat.{ℕ, _+_, _^_}
 use mathlib.Core.Bool.{Bool, true, false, _&&_}
 use mathlib.Core.List.{List, [], _∷_}
@@ -17,20 +17,23 @@ use Rattle.st7789.specs.Entries.{freshController}
 use Rattle.st7789.specs.Refusals.{transferRefusal}
 use Rattle.st7789.specs.declared.Controller.{Controller}
 
+-- A case of the table.
 pub record Case : Type 0 where
   pub state : Controller
   pub cells : ℕ
   pub bytes : ℕ
   pub number : ℕ
 
+-- Whether every case is given its number.
 abbrev pub allGiven : List Case → Bool
 allGiven [] = true
 allGiven (c ∷ cs) = eqb (transferRefusal (c .state) (c .cells) (c .bytes)) (c .number) && allGiven cs
 
--- A fresh panel with one part set.
+-- A fresh panel; each state below is one with a part set.
 abbrev pub fresh : Controller
 fresh = freshController true
 
+-- Window and pointer.
 abbrev pub cornered : ℕ → ℕ → ℕ → ℕ → ℕ → ℕ → Controller
 cornered xs xe ys ye x y =
     withChip
@@ -43,9 +46,11 @@ cornered xs xe ys ye x y =
     })
     fresh
 
+-- A parameter list of n bytes, the first of which is this.
 abbrev pub list : ℕ → ℕ → Params
 list n byte = record { bytes = set (replicate 14 0) 0 byte; count = n }
 
+-- The parameters in force.
 abbrev pub inForce : Params → Controller → Controller
 inForce p s =
     withChip
@@ -58,26 +63,30 @@ inForce p s =
     })
     s
 
+-- The last of the twelve places.
 abbrev pub stored : Bool → Params → Controller
 stored present p = withStored (set (fresh .stored) 11 (record { present = present; params = p })) fresh
 
--- `used` records, of which the first has these parameters and pixel bytes, and a current one
+-- `used` records, of which the first has these parameters and pixel bytes, and a current one.
 abbrev pub traced : ℕ → Params → ℕ → Current → Controller → Controller
 traced used p pixels current s =
     withTrace
     (record { count = used; places = set (s .records) 0 (record { at = 0; «pixel_bytes» = pixels; params = p; cmd = 0x00 }) })
     current s
 
+-- How many warnings are used.
 abbrev pub warned : ℕ → Controller
 warned n = withWarnings (record { count = n; places = fresh .warnings }) fresh
 
+-- The four counts.
 abbrev pub counted : ℕ → ℕ → ℕ → ℕ → Controller
 counted a b c d = withCounts (record { commands = a; «ramwr_count» = b; «pixels_written» = c; «dropped_params» = d }) fresh
 
--- a transfer of no bytes over the right memory
+-- A transfer of no bytes over the right memory.
 abbrev pub given : ℕ → Controller → Case
 given n s = record { state = s; cells = 76800; bytes = 0; number = n }
 
+-- The table.
 unfoldable pub cases : List Case
 cases =
     given 0 fresh

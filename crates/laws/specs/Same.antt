@@ -1,4 +1,4 @@
--- Document 01: "Two states are the same when their fields and the used part of each list are."
+-- Rules: 01, when two states are the same.
 use Prim.Native.Nat.{ℕ}
 use mathlib.Core.Path.{_≡_}
 use mathlib.Core.Bool.{Bool, true, false}
@@ -16,18 +16,22 @@ abbrev pub seen : Bool → Stored → Option (List ℕ)
 seen true e = some (listed (e .params))
 seen false e = none
 
+-- The same by its own flag.
 abbrev pub seenStored : Stored → Option (List ℕ)
 seenStored e = seen (e .present) e
 
+-- What counts of a trace record: "the used part of each list".
 pub record Entry : Type 0 where
   pub cmd : ℕ
   pub at : ℕ
   pub pixels : ℕ
   pub params : List ℕ
 
+-- That of a record.
 abbrev pub entry : TraceRecord → Entry
 entry r = record { cmd = r .cmd; at = r .at; pixels = r .«pixel_bytes»; params = listed (r .params) }
 
+-- "Two states are the same when their fields and the used part of each list are."
 pub record Same (s r : Controller) : Type 0 where
   pub cfg : s .cfg ≡ r .cfg
   pub power : s .power ≡ r .power

@@ -1,4 +1,5 @@
--- Document 01's worked examples as rows of one table: the transfers made on a fresh panel, and a test of what they leave.
+-- Examples, and first what specs/Kept is said with too: a call, a panel, and the panel after a call. 01's worked examples as rows of one
+-- table: the transfers made on a fresh panel, and a test of what they leave.
 use Prim.Native.Nat.{ℕ, _+_, _*_}
 use mathlib.Core.Bool.{Bool, true, false, not, _&&_}
 use mathlib.Core.List.{List, [], _∷_, _++_, foldl, map}
@@ -21,16 +22,19 @@ use Rattle.st7789.specs.Entries.{freshController, transferred, transferMemory}
 use Rattle.st7789.specs.declared.Controller.{Controller}
 use Rattle.views.specs.Light.{dimmed}
 
+-- A transfer.
 pub record Call : Type 0 where
   pub time : ℕ
   pub dc : Bool
   pub bytes : List ℕ
   pub release : Bool
 
+-- A controller and its memory.
 pub record Panel : Type 0 where
   pub controller : Controller
   pub memory : List ℕ
 
+-- A row of the table.
 pub record Row : Type 0 where
   pub calls : List Call
   pub passes : Panel → Bool
@@ -52,82 +56,100 @@ abbrev pub allPass : (Panel → Call → Panel) → List Row → Bool
 allPass make [] = true
 allPass make (row ∷ rest) = row .passes (foldl make fresh (row .calls)) && allPass make rest
 
--- What the calls are made of: a time in nanoseconds and a segment of commands, one command at time 0, data, and data with CS released after it.
+-- A segment of commands, at a time in nanoseconds.
 abbrev pub commandsAt : ℕ → List ℕ → Call
 commandsAt t bytes = record { time = t; dc = false; bytes = bytes; release = false }
 
+-- One command, at time 0.
 abbrev pub command : ℕ → Call
 command c = commandsAt 0 (c ∷ [])
 
+-- A segment of data.
 abbrev pub segment : List ℕ → Call
 segment bytes = record { time = 0; dc = true; bytes = bytes; release = false }
 
+-- The same, with CS released after it.
 abbrev pub lastSegment : List ℕ → Call
 lastSegment bytes = record { time = 0; dc = true; bytes = bytes; release = true }
 
+-- Milliseconds in nanoseconds.
 abbrev pub ms : ℕ → ℕ
 ms n = n * 1000000
 
--- What the tests are made of.
+-- Memory has this number at this index.
 abbrev pub holds : ℕ → ℕ → Panel → Bool
 holds index value p = eqb (getD (p .memory) index 0) value
 
+-- Memory is as it was.
 abbrev pub nothingStored : Panel → Bool
 nothingStored p = sameNumbers (p .memory) (fresh .memory)
 
+-- The pointer stands here.
 abbrev pub pointer : ℕ → ℕ → Panel → Bool
 pointer x y p = eqb (p .controller .chip .walk .pointer .x) x && eqb (p .controller .chip .walk .pointer .y) y
 
+-- So many pixels are counted.
 abbrev pub pixels : ℕ → Panel → Bool
 pixels n p = eqb (p .controller .counts .«pixels_written») n
 
+-- A span is these rows.
 abbrev pub isRows : ℕ → ℕ → Span → Bool
 isRows first last Span.Nothing = false
 isRows first last (Rows a b) = eqb a first && eqb b last
 
+-- The rows to publish are these.
 abbrev pub span : ℕ → ℕ → Panel → Bool
 span first last p = isRows first last (p .controller .marks .dirty)
 
+-- A carry is this byte.
 abbrev pub isHigh : ℕ → Carry → Bool
 isHigh b Empty = false
 isHigh b (High a) = eqb a b
 
+-- This byte waits.
 abbrev pub carry : ℕ → Panel → Bool
 carry b p = isHigh b (p .controller .chip .walk .carry)
 
+-- The window has these columns.
 abbrev pub columns : ℕ → ℕ → Panel → Bool
 columns xs xe p = eqb (p .controller .chip .window .xs) xs && eqb (p .controller .chip .window .xe) xe
 
--- a stored command's place among the twelve
+-- A stored command's place among the twelve.
 abbrev pub place : ℕ → Panel → Stored
 place i p = getD (p .controller .stored) i (record { present = false; params = record { bytes = []; count = 0 } })
 
+-- This list is stored there.
 abbrev pub stored : ℕ → List ℕ → Panel → Bool
 stored i bytes p = place i p .present && sameNumbers (listed (place i p .params)) bytes
 
+-- So many parameters are dropped.
 abbrev pub dropped : ℕ → Panel → Bool
 dropped n p = eqb (p .controller .counts .«dropped_params») n
 
--- the rules and the times of the warnings kept, in order
+-- The rules of the warnings kept, in order.
 abbrev pub warns : List ℕ → Panel → Bool
 warns rules p = sameNumbers (map (λ w. w .rule) (take (p .controller .logs .warned) (p .controller .warnings))) rules
 
+-- The times of the warnings kept, in order.
 abbrev pub warnsAt : List ℕ → Panel → Bool
 warnsAt times p = sameNumbers (map (λ w. w .at) (take (p .controller .logs .warned) (p .controller .warnings))) times
 
+-- No record is current.
 abbrev pub isNone : Current → Bool
 isNone Current.Nothing = true
 isNone (At i) = false
 
--- The boot rows as calls, each row at the delays of those before it, in milliseconds.
+-- The parameters of a boot row as a segment, where it has any.
 abbrev pub dataOf : List ℕ → List Call
 dataOf [] = []
 dataOf (b ∷ bs) = segment (b ∷ bs) ∷ []
 
+-- The boot rows as calls, each row at the delays of those before it, in milliseconds.
 abbrev pub sentFrom : ℕ → List BootStep → List Call
 sentFrom at [] = []
 sentFrom at (s ∷ steps) = commandsAt (ms at) (s .cmd ∷ []) ∷ (dataOf (listed (s .params)) ++ sentFrom (at + s .«delay_ms_after») steps)
 
+-- The table.
 unfoldable pub rows : List Row
 rows =
     -- P1: 2C, data F8 00 07 E0: indexes 0 and 1 hold F800, 07E0; pointer (2,0)

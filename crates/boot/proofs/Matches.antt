@@ -4,17 +4,13 @@ use mathlib.Core.Path.{_≡_, refl}
 use mathlib.Core.Bool.{Bool, true, false, cond}
 use mathlib.Core.List.{List, [], _∷_, map}
 use native.Mathlib.Omega.{arith}
-use lib.ListN.{length, getD}
+use lib.ListN.{length}
 use Rattle.lists.specs.Params.{differ}
 use Rattle.lists.specs.declared.TraceRecord.{TraceRecord}
-use Rattle.sequence.specs.Sequence.{bootSequence, pastStep}
-use Rattle.boot.specs.Boot.{fits, emptyRecord, answered, comparedFrom, compared, stepOf}
+use Rattle.sequence.specs.Sequence.{bootSequence}
+use Rattle.boot.specs.Boot.{fits, emptyRecord, answered, comparedFrom, compared, stepOf, FitsAt}
 use Rattle.sequence.specs.declared.BootStep.{BootStep}
 use Rattle.boot.specs.declared.BootCheck.the-variants.{Match, Differs}
-
--- Record i is there and fits step i, counted from 0.
-abbrev pub FitsAt : List BootStep → List TraceRecord → ℕ → Type 0
-FitsAt steps records i = (i < length records) × (fits (getD steps i pastStep) (getD records i emptyRecord) ≡ true)
 
 all-fit :
     (k : ℕ) (steps : List BootStep) (records : List TraceRecord) → 0 < k → stepOf (comparedFrom k steps records .check) ≡ 0 → (i : ℕ) →

@@ -1,13 +1,14 @@
 -- Rules: 01, "Boot comparison".
-use Prim.Native.Nat.{ℕ, _+_, _-_}
-use mathlib.Core.Bool.{Bool, cond, not, _&&_}
+use Prim.Native.Nat.{ℕ, _+_, _-_, _<_}
+use mathlib.Core.Path.{_≡_}
+use mathlib.Core.Bool.{Bool, true, cond, not, _&&_}
 use mathlib.Core.List.{List, [], _∷_}
-use lib.ListN.{drop}
+use lib.ListN.{length, getD, drop}
 use lib.Dec.{eqb}
 use Rattle.lists.specs.Params.{noParams, differ}
 use Rattle.lists.specs.declared.TraceRecord.{TraceRecord}
 use Rattle.sequence.specs.declared.BootStep.{BootStep}
-use Rattle.sequence.specs.Sequence.{bootSequence}
+use Rattle.sequence.specs.Sequence.{bootSequence, pastStep}
 use Rattle.boot.specs.declared.BootCheck.{BootCheck}
 use Rattle.boot.specs.declared.BootCheck.the-variants.{Match, Differs, Missing}
 use Rattle.boot.specs.declared.Compared.{Compared}
@@ -50,3 +51,7 @@ abbrev pub stepOf : BootCheck → ℕ
 stepOf Match = 0
 stepOf (Differs k) = k
 stepOf (Missing k) = k
+
+-- What `match-fits` and `fits-match` say of each step: record i is there and fits step i, counted from 0.
+abbrev pub FitsAt : List BootStep → List TraceRecord → ℕ → Type 0
+FitsAt steps records i = (i < length records) × (fits (getD steps i pastStep) (getD records i emptyRecord) ≡ true)

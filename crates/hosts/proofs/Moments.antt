@@ -21,7 +21,8 @@ use Rattle.st7789.specs.Data.{ran, taken, dataFor, dataIn, storesIn}
 use Rattle.st7789.specs.Refusals.{transferRefusal}
 use Rattle.st7789.specs.Entries.{freshController, railReset, moved, transferred, transferMemory, resetState, resetMemory}
 use Rattle.st7789.specs.declared.Controller.{Controller}
-use Rattle.laws.proofs.Stays.{Good, here}
+use Rattle.laws.specs.Valid.{Good}
+use Rattle.laws.proofs.Stays.{here}
 use Rattle.laws.proofs.Reach.{good-not-bad, transferred-good, fresh-good, powered-good, shows-good, brightness-good, marked-good, reset-good}
 use Rattle.publishing.specs.Publish.{spanCopied, inSpan, published, publishedFrame}
 use Rattle.publishing.proofs.Refusing.{none-bad}

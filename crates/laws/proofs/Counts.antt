@@ -27,11 +27,9 @@ use Rattle.st7789.specs.declared.Controller.{Controller}
 use Rattle.st7789.proofs.Commands.{one-more}
 use Rattle.st7789.proofs.Tests.{current-placed}
 use Rattle.st7789.proofs.Accepted.{none-refused}
-use Rattle.laws.proofs.Stays.{Good, begun-good}
+use Rattle.laws.specs.Valid.{Good, heldBy, Bounded}
+use Rattle.laws.proofs.Stays.{begun-good}
 use Rattle.laws.proofs.Reach.{good-not-bad}
-
-abbrev heldBy : Controller → ℕ
-heldBy s = pixelsHeld (s .logs .current) (s .records)
 
 pub record Grown (n : ℕ) (s r : Controller) : Type 0 where
   pub commands : r .counts .commands ≤ s .counts .commands + n
@@ -152,14 +150,6 @@ moved-grown t dc bytes cs s g = go dc cs
         (cond cs (released (cond dc (dataIn bytes s) (begunAll t bytes s))) (cond dc (dataIn bytes s) (begunAll t bytes s)))
     go true cs = last cs (dataIn bytes s) (data-grown bytes s g)
     go false cs = last cs (begunAll t bytes s) (all-grown t bytes s g)
-
--- The bounds that 2^63 and 65,536 give.
-pub record Bounded (s : Controller) : Type 0 where
-  pub commands : s .counts .commands ≤ 2 ^ 63 + 65536
-  pub ramwrs : s .counts .«ramwr_count» ≤ 2 ^ 63 + 65536
-  pub pixels : s .counts .«pixels_written» ≤ 2 ^ 63 + 65536
-  pub dropped : s .counts .«dropped_params» ≤ 2 ^ 63 + 65536
-  pub held : heldBy s ≤ 2 ^ 63 + 65536
 
 low : (x : ℕ) → high x ≡ false → x ≤ 2 ^ 63
 low x e = ltb-false (2 ^ 63) x e

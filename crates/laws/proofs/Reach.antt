@@ -24,7 +24,8 @@ use Rattle.st7789.specs.declared.Counts.{Counts}
 use Rattle.board.specs.declared.BoardDomain.{BoardDomain}
 use Rattle.st7789.specs.declared.Controller.{Controller}
 use Rattle.st7789.proofs.Tests.{not-bad}
-use Rattle.laws.proofs.Stays.{Good, here, moved-good}
+use Rattle.laws.specs.Valid.{Good}
+use Rattle.laws.proofs.Stays.{here, moved-good}
 
 pub good-not-bad : (s : Controller) → Good s → badState s ≡ false
 good-not-bad s g = not-bad s (g .fine)

@@ -36,18 +36,13 @@ use Rattle.pixels.specs.Spans.{spanBad}
 use Rattle.st7789.specs.Parts.{traceOf, warningsOf, withChip, withCounts, withTrace}
 use Rattle.st7789.specs.Command.{warning, linted, countsBegun, begunRecord, traced, begun, begunAll, released}
 use Rattle.st7789.specs.Data.{onCurrent, morePixels, moreParams, ran, taken, dataFor, dataIn}
-use Rattle.st7789.specs.Refusals.{countBad, currentBad}
+use Rattle.st7789.specs.Refusals.{countBad, currentBad, Fine}
 use Rattle.st7789.specs.Entries.{moved}
 use Rattle.st7789.specs.declared.Controller.{Controller}
-use Rattle.st7789.proofs.Tests.{none-of-four, Fine, fine}
-use Rattle.laws.specs.Valid.{Sized}
+use Rattle.st7789.proofs.Tests.{none-of-four, fine}
+use Rattle.laws.specs.Valid.{Sized, Good}
 use Rattle.laws.proofs.Entries.{none-set}
 use Rattle.laws.proofs.Traces.{roomy-set, badHere, pushed-short, pushed-current, changed-short, changed-current, changed-long, changed-roomy}
-
--- A good state: not BAD_STATE, with arrays of the lengths that the types say.
-pub record Good (s : Controller) : Type 0 where
-  pub sized : Sized s
-  pub fine : Fine s
 
 -- The tests as bounds, and back.
 window-within : (w : Window) → windowBad w ≡ false → WindowWithin w

@@ -8,8 +8,8 @@ use borrow.Author.Tests.{ltb-false, eqb-true}
 use lib.Dec.{ltb, eqb}
 use lib.ListN.{length, drop, length-take, length-drop}
 use Rattle.logs.specs.Log.{Segment, bodyLength, recordLength, segmentOf, segments, fromBad, logRefusal}
+use Rattle.logs.specs.Stored.{Each}
 use Rattle.logs.proofs.Records.{segments-next, segments-last, by-records}
-use Rattle.logs.proofs.Stored.{Each}
 
 -- An accepted log: not too long, and without a bad record.
 pub record Accepted (log : List ℕ) : Type 0 where

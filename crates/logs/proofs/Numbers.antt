@@ -9,7 +9,8 @@ use lib.Arith.{digits-div, digits-mod}
 use lib.ListN.{length, take, drop, getD, length-append, drop-of-length-le}
 use lib.Seq.{drop-cons, take-suc}
 use Rattle.logs.specs.Log.{bigEndian, valueOf}
-use Rattle.logs.proofs.Bytes.{Bytes, bytes-none, bytes-append, bytes-one}
+use Rattle.logs.specs.Stored.{Bytes}
+use Rattle.logs.proofs.Bytes.{bytes-none, bytes-append, bytes-one}
 
 -- What fits few bytes fits more.
 pub fewer-bytes : (few more : ℕ) {v : ℕ} → few ≤ more → v < 256 ^ few → v < 256 ^ more

@@ -9,6 +9,7 @@ use lib.Dec.{ltb, eqb}
 use lib.ListN.{length, drop, length-drop}
 use lib.Seq.{drop-nil, drop-drop}
 use Rattle.logs.specs.Log.{recordLength, recordBad, fromBad, logRefusal, badOffset}
+use Rattle.logs.specs.Stored.{BadAt}
 use Rattle.logs.proofs.Records.{whole, bad-here, bad-later, bad-never, by-records}
 
 -- The bytes from the first bad record on are the last bytes of the log, and begin with it.
@@ -49,11 +50,6 @@ found = by-records Found found-none (λ rest some f. one rest some f (recordBad 
         (rest : List ℕ) → 0 < length rest → Found (drop (recordLength rest) rest) → (b : Bool) → recordBad rest ≡ b → Found rest
     one rest some f true e = found-here rest (bad-here rest some e) e
     one rest some f false e = found-later (recordLength rest) rest (whole rest e .long) (bad-later rest some e) f
-
--- The offset is that of a byte of the log, and a bad record begins there.
-pub record BadAt (log : List ℕ) (at : ℕ) : Type 0 where
-  pub inside : at < length log
-  pub bad : recordBad (drop at log) ≡ true
 
 pub offset-bad : (log : List ℕ) → logRefusal log ≡ 7 → BadAt log (badOffset log)
 unfolding logRefusal badOffset

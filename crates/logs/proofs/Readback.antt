@@ -7,10 +7,10 @@ use native.Mathlib.Omega.{arith}
 use lib.ListN.{length, take, drop, getD, length-take, length-drop, take-append-drop}
 use lib.Seq.{drop-drop, take-add}
 use Rattle.logs.specs.Log.{bigEndian, tagOf, encoded, logOf, timeOf, bodyLength, recordLength, dcOf, releaseOf, segmentOf, segments, fromBad}
-use Rattle.logs.proofs.Bytes.{Bytes, bytes-take, bytes-drop}
+use Rattle.logs.specs.Stored.{Bytes, Storable, Each}
+use Rattle.logs.proofs.Bytes.{bytes-take, bytes-drop}
 use Rattle.logs.proofs.Numbers.{fewer-bytes, value-small, bigEndian-value}
 use Rattle.logs.proofs.Records.{Whole, whole, good-first, good-rest, segments-next, segments-last, by-records}
-use Rattle.logs.proofs.Stored.{Each, Storable}
 
 -- A good record is what its segment is stored as.
 tag-again : (tag : ℕ) → tag ≤ 3 → tagOf (dcOf tag) (releaseOf tag) ≡ tag

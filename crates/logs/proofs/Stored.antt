@@ -1,5 +1,5 @@
 -- Storing segments and reading them back.
-use Prim.Native.Nat.{ℕ, _^_, _≤_, _<_}
+use Prim.Native.Nat.{ℕ, _≤_, _<_}
 use mathlib.Core.Path.{_≡_, refl, sym, ap, ap₂, _∙_}
 use mathlib.Core.Bool.{Bool, true, false}
 use mathlib.Core.List.{List, [], _∷_, _++_, append-assoc}
@@ -7,7 +7,8 @@ use native.Mathlib.Omega.{arith}
 use lib.ListN.{length, take, drop, getD, length-append}
 use lib.Seq.{take-append-seam, take-at, drop-at, drop-drop}
 use Rattle.logs.specs.Log.{Segment, bigEndian, valueOf, tagOf, encoded, logOf, bodyLength, recordLength, dcOf, releaseOf, segmentOf, recordBad, segments, fromBad, logRefusal}
-use Rattle.logs.proofs.Bytes.{Bytes, bytes-none, bytes-append, bytes-one}
+use Rattle.logs.specs.Stored.{Bytes, Storable, Each}
+use Rattle.logs.proofs.Bytes.{bytes-none, bytes-append, bytes-one}
 use Rattle.logs.proofs.Numbers.{length-bigEndian, bytes-bigEndian, value-bigEndian}
 use Rattle.logs.proofs.Checking.{all-accepted}
 use Rattle.logs.proofs.Records.{not-bad, bad-later, bad-never, segments-next, segments-last}
@@ -46,12 +47,6 @@ same-segment :
     {t u : ℕ} {a b c d : Bool} {l m : List ℕ} → t ≡ u → a ≡ b → c ≡ d → l ≡ m →
     _≡_ {A = Segment} (record { time = t; dc = a; release = c; bytes = l }) (record { time = u; dc = b; release = d; bytes = m })
 same-segment p q r s = cc
-
--- What fits the stored form: 8 bytes of time, 2 bytes of length.
-pub record Storable (s : Segment) : Type 0 where
-  pub time : s .time < 2 ^ 64
-  pub short : length (s .bytes) < 2 ^ 16
-  pub bytes : Bytes (s .bytes)
 
 module _ (s : Segment) (behind : List ℕ) (fits : Storable s) where
   eight : length (bigEndian 8 (s .time)) ≡ 8
@@ -111,11 +106,6 @@ segment-bytes s fits =
     bytes-one (time ++ (count ++ s .bytes)) (omega (arith, tagged (s .dc) (s .release) .known))
     (bytes-append time (count ++ s .bytes) (bytes-bigEndian 8 (s .time))
     (bytes-append count (s .bytes) (bytes-bigEndian 2 (length (s .bytes))) (fits .bytes)))
-
--- A fact of each element of a list.
-abbrev pub Each : {A : Type 0} → (A → Type 0) → List A → Type 0
-Each P [] = Unit
-Each P (x ∷ xs) = P x × Each P xs
 
 -- Segments, stored, are read back.
 pub segments-stored : (ss : List Segment) → Each Storable ss → segments (logOf ss) ≡ ss

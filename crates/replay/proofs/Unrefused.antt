@@ -11,12 +11,14 @@ use lib.ListN.{length}
 use Rattle.status.specs.Tests.{high}
 use Rattle.status.specs.Numbers.{unlessRefused}
 use Rattle.logs.specs.Log.{Segment, segments, logOf, logRefusal, badOffset}
+use Rattle.logs.specs.Stored.{Storable, Each}
 use Rattle.logs.proofs.Bounds.{accepted, total, total-within}
-use Rattle.logs.proofs.Stored.{Each, Storable, segments-stored, stored-accepted}
+use Rattle.logs.proofs.Stored.{segments-stored, stored-accepted}
 use Rattle.st7789.specs.Refusals.{pixelsHeld, countHigh, bareRefusal}
-use Rattle.st7789.specs.Entries.{freshController, moved, bareTransferred}
+use Rattle.st7789.specs.Entries.{freshController, bareTransferred}
 use Rattle.st7789.specs.declared.Controller.{Controller}
-use Rattle.laws.proofs.Stays.{Good, moved-good}
+use Rattle.laws.specs.Valid.{Good}
+use Rattle.laws.proofs.Stays.{moved-good}
 use Rattle.laws.proofs.Reach.{good-not-bad, fresh-good, bare-good}
 use Rattle.laws.proofs.Counts.{moved-grown}
 use Rattle.lists.specs.Fixed.{used}
@@ -25,16 +27,7 @@ use Rattle.text.proofs.Text.{count-room, used-room}
 use Rattle.report.specs.Report.{report}
 use Rattle.report.proofs.Room.{line-most, report-most}
 use Rattle.lines.specs.Lines.{ascii, line}
-use Rattle.replay.specs.Replay.{sent, replayed, printed}
-
--- A record of the log as what an accepted transfer does.
-abbrev pub made : Controller → Segment → Controller
-made s r = moved (r .time) (r .dc) (r .bytes) (r .release) s
-
--- None of the transfers is refused where it comes.
-abbrev pub NoneRefused : Controller → List Segment → Type 0
-NoneRefused s [] = Unit {0}
-NoneRefused s (r ∷ rs) = (bareRefusal s (length (r .bytes)) ≡ 0) × NoneRefused (sent s r) rs
+use Rattle.replay.specs.Replay.{sent, replayed, printed, made, NoneRefused}
 
 -- Counts of at most n.
 record Few (n : ℕ) (s : Controller) : Type 0 where

@@ -17,7 +17,7 @@ use Rattle.pixels.specs.Spans.{spanBad}
 use Rattle.status.specs.Tests.{countsHigh, transferTests}
 use Rattle.st7789.specs.Parts.{traceOf}
 use Rattle.st7789.specs.Data.{noRecord}
-use Rattle.st7789.specs.Refusals.{countBad, currentBad, badState, pixelsHeld, countHigh, transferRefusal}
+use Rattle.st7789.specs.Refusals.{countBad, currentBad, badState, pixelsHeld, countHigh, transferRefusal, Fine}
 use Rattle.st7789.specs.Places.{currentSlot, wrongFor, heldFor, partsBad, judgedFor}
 use Rattle.st7789.specs.Room.{Placed}
 use Rattle.st7789.specs.declared.Controller.{Controller}
@@ -30,17 +30,6 @@ none-of-four a b c d e =
     let e2 = neither b (c || d) (e1 .1) in
     let e3 = neither c d (e2 .1) in
     (e1 .0, e2 .0, e3 .0, e3 .1)
-
-pub record Fine (s : Controller) : Type 0 where
-  pub window : windowBad (s .chip .window) ≡ false
-  pub pointer : pointerBad (s .chip .walk .pointer) ≡ false
-  pub params : tooLong (s .chip .decoder .params) ≡ false
-  pub stored : some storedLong (s .stored) ≡ false
-  pub traced : countBad (s .logs .traced) ≡ false
-  pub warned : countBad (s .logs .warned) ≡ false
-  pub records : some recordLong (used (traceOf s)) ≡ false
-  pub span : spanBad (s .marks .dirty) ≡ false
-  pub current : currentBad (s .logs .current) s ≡ false
 
 pub fine : (s : Controller) → badState s ≡ false → Fine s
 unfolding badState

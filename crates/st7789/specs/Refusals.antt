@@ -1,5 +1,6 @@
 -- Rules: 01's table of refusals, when each is given.
 use Prim.Native.Nat.{ℕ, _+_}
+use mathlib.Core.Path.{_≡_}
 use mathlib.Core.Bool.{Bool, false, cond, not, _||_}
 use mathlib.Core.List.{List}
 use lib.ListN.{getD}
@@ -57,3 +58,15 @@ transferRefusal s cells bytes = cond (badState s) 1 (transferTests cells bytes (
 -- The same without memory: "each entry making those that concern its arguments".
 unfoldable pub bareRefusal : Controller → ℕ → ℕ
 bareRefusal s bytes = cond (badState s) 1 (cond (ltb 65536 bytes) 4 (cond (countHigh s) 5 0))
+
+-- Not BAD_STATE, clause by clause: what the laws say of a good state.
+pub record Fine (s : Controller) : Type 0 where
+  pub window : windowBad (s .chip .window) ≡ false
+  pub pointer : pointerBad (s .chip .walk .pointer) ≡ false
+  pub params : tooLong (s .chip .decoder .params) ≡ false
+  pub stored : some storedLong (s .stored) ≡ false
+  pub traced : countBad (s .logs .traced) ≡ false
+  pub warned : countBad (s .logs .warned) ≡ false
+  pub records : some recordLong (used (traceOf s)) ≡ false
+  pub span : spanBad (s .marks .dirty) ≡ false
+  pub current : currentBad (s .logs .current) s ≡ false

@@ -13,7 +13,7 @@ use Rattle.st7789.specs.Data.{ran, taken, dataFor, dataIn}
 use Rattle.st7789.specs.Entries.{moved, transferred}
 use Rattle.st7789.specs.declared.Controller.{Controller}
 use Rattle.no_room.specs.Examples.{Call, Panel}
-use Rattle.no_room.proofs.Kept.{Transfer, KeepsTransfer}
+use Rattle.no_room.specs.Kept.{Transfer, KeepsTransfer}
 
 begun-counted : (t : ℕ) (bytes : List ℕ) (s : Controller) → begunAll t bytes s .counts .commands ≡ s .counts .commands + length bytes
 unfolding begun

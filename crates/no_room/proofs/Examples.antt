@@ -2,8 +2,9 @@
 use mathlib.Core.Path.{_≡_, refl, ap, _∙_}
 use mathlib.Core.Bool.{true}
 use Rattle.no_room.specs.Examples.{after, rows, allPass}
+use Rattle.no_room.specs.Kept.{Transfer, KeepsTransfer, leftBy}
 use Rattle.no_room.proofs.Model.{model}
-use Rattle.no_room.proofs.Kept.{Transfer, KeepsTransfer, leftBy, as-promised}
+use Rattle.no_room.proofs.Kept.{as-promised}
 
 pub all-pass : allPass after rows ≡ true
 unfolding rows model

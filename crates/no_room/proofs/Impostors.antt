@@ -9,20 +9,14 @@ use borrow.Author.Tests.{eqb-false}
 use Rattle.status.specs.Numbers.{number}
 use Rattle.st7789.specs.Refusals.{transferRefusal}
 use Rattle.publishing.specs.Publish.{publishRefusal, published, publishedFrame}
-use Rattle.no_room.specs.Examples.{Call, Panel, fresh, after, command, segment}
+use Rattle.no_room.specs.Examples.{Call, Panel, fresh, after, segment}
+use Rattle.no_room.specs.Kept.{Transfer, Done, KeepsTransfer, leftBy, Publish, Shown, KeepsPublish, first, second}
 use Rattle.no_room.proofs.Model.{model}
-use Rattle.no_room.proofs.Kept.{Transfer, Done, KeepsTransfer, leftBy, as-promised, Publish, Shown, KeepsPublish}
+use Rattle.no_room.proofs.Kept.{as-promised}
 
 -- Two things that look different are different.
 apart : {A : Type 0} (look : A → ℕ) (m n : ℕ) {x y : A} → look x ≡ m → look y ≡ n → eqb m n ≡ false → x ≡ y → ⊥
 apart look m n p q d e = eqb-false m n d (sym p ∙ ap look e ∙ q)
-
--- P1's two transfers.
-abbrev pub first : Call
-first = command 0x2C
-
-abbrev pub second : Call
-second = segment (0xF8 ∷ 0x00 ∷ 0x07 ∷ 0xE0 ∷ [])
 
 abbrev begunPanel : Panel
 begunPanel = after fresh first

@@ -1,30 +1,11 @@
--- What it is for a promise to leave no room, and the two steps by which each of them does not.
+-- The two steps by which a promise leaves no room.
 use Prim.Native.Nat.{ℕ}
 use mathlib.Core.Path.{_≡_, refl, sym, ap, _∙_}
 use mathlib.Core.List.{[], _∷_}
 use lib.ListN.{getD}
-use contract.Lifetimes.{Lfts}
-use denote.Triple.Entry.{Args, Res}
-use denote.Triple.Clauses.{Ended, AtExit, Lasts, atExit}
 use Rattle.status.specs.Numbers.{number}
 use Rattle.status.specs.declared.Status.{Status}
 use Rattle.status.specs.declared.Status.the-variants.{Ok, BadState, BadMemory, BadFrame, TooLong, CountHigh, LogLong, BadLog}
-
--- A promise as the contract of a function makes it: of the arguments, the result, and the arguments as they are at exit.
-abbrev pub Promise : Ended → Type 1
-Promise T = (κs : Lfts (T .signature .lifetimes)) → Args (T .signature) κs → Res (T .signature) κs → AtExit T κs → Type 0
-
--- For the same arguments, two results and two fillings of what is lent, both as promised, are the same. `seen` is what is compared of a result.
-abbrev pub OnlyAs :
-    (T : Ended) (Seen : Lfts (T .signature .lifetimes) → Type 0) → ((κs : Lfts (T .signature .lifetimes)) → Res (T .signature) κs → Seen κs) →
-    Promise T → Type 0
-OnlyAs T Seen seen promise =
-    (κs : Lfts (T .signature .lifetimes)) (args : Args (T .signature) κs) (x y : Res (T .signature) κs) (u v : Lasts T κs args) →
-    promise κs args x (atExit T κs args u) → promise κs args y (atExit T κs args v) → (seen κs x ≡ seen κs y) × (u ≡ v)
-
--- The whole result.
-abbrev pub Only : (T : Ended) → Promise T → Type 0
-Only T = OnlyAs T (λ κs. Res (T .signature) κs) (λ κs x. x)
 
 pub same : {A : Type 0} {x y v : A} → x ≡ v → y ≡ v → x ≡ y
 same p q = p ∙ sym q

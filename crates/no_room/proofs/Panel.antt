@@ -22,7 +22,8 @@ use Rattle.views.proofs.pixel as pixel
 use Rattle.views.proofs.frame as frame
 use Rattle.views.proofs.row as row
 use Rattle.publishing.proofs.publish as publish
-use Rattle.no_room.proofs.Only.{Only, OnlyAs, same, told}
+use Rattle.no_room.specs.Only.{Only, OnlyAs}
+use Rattle.no_room.proofs.Only.{same, told}
 
 -- An answer is a controller and a status.
 answered :

@@ -39,7 +39,8 @@ use Rattle.chip.proofs.Chip.fresh as chip-fresh
 use Rattle.chip.proofs.Chip.begin as begin
 use Rattle.chip.proofs.Chip.take as take
 use Rattle.chip.proofs.Chip.release as release
-use Rattle.no_room.proofs.Only.{Only, same, told}
+use Rattle.no_room.specs.Only.{Only}
+use Rattle.no_room.proofs.Only.{same, told}
 
 pub digest-one : Only digest.ended digest.Reads.Learnt
 digest-one κs args x y u v p q = (same p q, refl)

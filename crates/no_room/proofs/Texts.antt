@@ -8,10 +8,8 @@ use prog.Wp.{Heap}
 use ghost.Atoms.{Atoms}
 use contract.Lifetimes.{Lfts}
 use contract.Monad.{Fun, fact}
-use denote.Ref.{now}
 use denote.Triple.Entry.{Args, Res}
 use denote.Triple.Clauses.{AtExit}
-use Rattle.boot.specs.Boot.{compared}
 use Rattle.text.proofs.put_byte as put-byte
 use Rattle.text.proofs.put_bytes as put-bytes
 use Rattle.text.proofs.put_decimal as put-decimal
@@ -32,7 +30,8 @@ use Rattle.logs.proofs.check as check
 use Rattle.logs.proofs.head_at as head-at
 use Rattle.replay.proofs.replay as replay
 use Rattle.replay.proofs.print_log as print-log
-use Rattle.no_room.proofs.Only.{Promise, Only, same, told}
+use Rattle.no_room.specs.Only.{Only, compares}
+use Rattle.no_room.proofs.Only.{same, told}
 
 pub put-byte-one : Only put-byte.ended put-byte.Reads.Learnt
 put-byte-one κs args x y u v p q = (same (p .0) (q .0), λ i. (same (p .1) (q .1) i, (tt, (tt, tt))))
@@ -76,10 +75,7 @@ step-number-one κs args x y u v p q = (same p q, refl)
 pub judge-one : Only judge.ended judge.Reads.Learnt
 judge-one κs args x y u v p q = (same p q, refl)
 
--- The comparison over a slice of records is proved by hand, and so has no reading: its promise is written out, and is its contract.
-abbrev compares : Promise boot-mismatch.ended
-compares κs args x e = x ≡ compared (now (args .0))
-
+-- The comparison over a slice of records: its promise as it is written out is its contract.
 pub boot-mismatch-says :
     {M : Type 1} (𝓤 : URA M) (H : Heap 𝓤) (A : Atoms 𝓤) (mem : Memory → SProp 𝓤) (run : Routine → Fun 𝓤) (κs : Lfts 1)
     (args : Args (boot-mismatch.ended .signature) κs) (x : Res (boot-mismatch.ended .signature) κs) (e : AtExit boot-mismatch.ended κs) →

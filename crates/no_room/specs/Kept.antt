@@ -1,0 +1,66 @@
+-- Rules: 01, "Four impostors are tried.": anything of the type of a transfer or of publishing, and what it is for it to keep the promise.
+use Prim.Native.Nat.{ℕ}
+use mathlib.Core.List.{List, [], _∷_}
+use denote.Ref.{RefT}
+use denote.Triple.Entry.{Args}
+use denote.Triple.Clauses.{atExit}
+use Rattle.st7789.specs.declared.Answer.{Answer}
+use Rattle.st7789.proofs.Controller.transfer as transfer
+use Rattle.publishing.specs.declared.Published.{Published}
+use Rattle.publishing.proofs.publish as publish
+use Rattle.no_room.specs.Examples.{Call, Panel, command, segment}
+
+-- Lent numbers, wherever they stand.
+abbrev lent : List ℕ → RefT (List ℕ)
+lent numbers = record { ptr = (0, 0); name = 0; now = numbers }
+
+-- What a transfer leaves: the answer, and memory.
+pub record Done : Type 0 where
+  pub answer : Answer
+  pub memory : List ℕ
+
+-- Anything of the type of a transfer.
+abbrev pub Transfer : Type 0
+Transfer = Panel → Call → Done
+
+-- A panel and a call as the arguments of `transfer`.
+abbrev transferArgs : Panel → Call → Args transfer.signature ([], ([], tt))
+transferArgs p c = (p .controller, (c .time, (c .dc, (lent (c .bytes), (c .release, (lent (p .memory), tt))))))
+
+-- It keeps the promise of `transfer`, which is the contract.
+abbrev pub KeepsTransfer : Transfer → Type 0
+KeepsTransfer f =
+    (p : Panel) (c : Call) →
+    transfer.Reads.Learnt ([], ([], tt)) (transferArgs p c) (f p c .answer)
+    (atExit transfer.ended ([], ([], tt)) (transferArgs p c) (tt, (tt, (tt, (tt, (tt, (f p c .memory, tt)))))))
+
+-- The panel that it leaves.
+abbrev pub leftBy : Transfer → Panel → Call → Panel
+leftBy f p c = record { controller = f p c .answer .controller; memory = f p c .memory }
+
+-- What publishing leaves: the answer, and the frame.
+pub record Shown : Type 0 where
+  pub answer : Published
+  pub frame : List ℕ
+
+-- Anything of the type of publishing.
+abbrev pub Publish : Type 0
+Publish = Panel → List ℕ → Shown
+
+-- A panel and a frame as the arguments of `publish`.
+abbrev publishArgs : Panel → List ℕ → Args publish.signature ([], ([], tt))
+publishArgs p frame = (p .controller, (lent (p .memory), (lent frame, tt)))
+
+-- It keeps the promise of `publish`, which is the contract.
+abbrev pub KeepsPublish : Publish → Type 0
+KeepsPublish f =
+    (p : Panel) (frame : List ℕ) →
+    publish.Reads.Learnt ([], ([], tt)) (publishArgs p frame) (f p frame .answer)
+    (atExit publish.ended ([], ([], tt)) (publishArgs p frame) (tt, (tt, (f p frame .frame, tt))))
+
+-- P1's two transfers, "2C" and "data F8 00 07 E0".
+abbrev pub first : Call
+first = command 0x2C
+
+abbrev pub second : Call
+second = segment (0xF8 ∷ 0x00 ∷ 0x07 ∷ 0xE0 ∷ [])

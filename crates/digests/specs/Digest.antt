@@ -1,4 +1,4 @@
--- Rules: the digest of the page on scripts, docs/SCRIPTS.md. 01 has none.
+-- Rules: docs/SCRIPTS.md, "Digests". 01 has none.
 use Prim.Native.Nat.{ℕ, _+_, _*_, _%_}
 use mathlib.Core.List.{List, foldl}
 use Rattle.digests.specs.declared.Halves.{Halves}

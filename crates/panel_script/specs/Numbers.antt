@@ -1,4 +1,4 @@
--- Numbers in a script: "Bytes and pixels are lower-case hex, other numbers decimal"
+-- Rules: docs/SCRIPTS.md, numbers in a script: "Bytes and pixels are lower-case hex, other numbers decimal"
 use Prim.Native.Nat.{ℕ, _+_, _-_, _*_, _^_}
 use mathlib.Core.Bool.{true, false, cond, _&&_}
 use mathlib.Core.List.{List, foldl}
@@ -10,9 +10,11 @@ use Rattle.panel_script.specs.declared.numbers.Number.{Number}
 abbrev pub digitValue : ℕ → ℕ
 digitValue byte = cond (ltb byte 48) 16 (cond (ltb byte 58) (byte - 48) (cond (ltb byte 97) 16 (cond (ltb byte 103) (byte - 87) 16)))
 
+-- What is read of a word that is no number.
 abbrev pub noNumber : Number
 noNumber = record { value = 0; good = false }
 
+-- The number before its first digit.
 abbrev pub zeroNumber : Number
 zeroNumber = record { value = 0; good = true }
 

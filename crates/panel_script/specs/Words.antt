@@ -1,4 +1,4 @@
--- The words of a script: "words part at spaces; empty lines and what follows a `#` are skipped"
+-- Rules: docs/SCRIPTS.md, the words of a script: "words part at spaces; empty lines and what follows a `#` are skipped"
 use Prim.Native.Nat.{ℕ, zero, suc}
 use mathlib.Core.Bool.{Bool, true, false, cond, not, _&&_}
 use mathlib.Core.List.{List, [], _∷_}
@@ -18,6 +18,7 @@ until b text = upTo (λ x. eqb x b) text
 abbrev pub run : ℕ → List ℕ → ℕ
 run b text = upTo (λ x. not (eqb x b)) text
 
+-- What stands before the first b; all of it where there is none.
 abbrev pub beforeFirst : ℕ → List ℕ → List ℕ
 beforeFirst b text = take (until b text) text
 

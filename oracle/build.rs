@@ -6,10 +6,9 @@ use std::fs;
 use std::path::{Path, PathBuf};
 use std::process::exit;
 
-/// A source: module name, file name in PANEL_SRC, SHA-256, and our module hung onto its end.
+/// A source: module name, SHA-256 of what is taken of it, and our module hung onto its end.
 struct Source {
     module: &'static str,
-    file: &'static str,
     sha256: &'static str,
     reach: Option<&'static str>,
 }
@@ -17,19 +16,16 @@ struct Source {
 const SOURCES: [Source; 3] = [
     Source {
         module: "st7789",
-        file: "src--crates--pemu-board--src--st7789.rs.txt",
         sha256: "e5da258b11aef77cd2a2d64411cb1851944d0452955c5fd785e6c46d0b71c318",
         reach: Some("reach_panel.rs"),
     },
     Source {
         module: "backlight",
-        file: "src--crates--pemu-board--src--backlight.rs.txt",
         sha256: "91d6644709d7542f19cdd022ef5c691533d98c1dc32d5fb764263ee305d0febd",
         reach: Some("reach_backlight.rs"),
     },
     Source {
         module: "traits",
-        file: "src--crates--pemu-board--src--traits.rs.txt",
         sha256: "332310fd09ed38387a982233cfd9d9d362bd9a596bdcffeac62bd51501acae41",
         reach: None,
     },
@@ -54,7 +50,7 @@ fn main() {
     let mut modules = String::new();
     for source in &SOURCES {
         let copy = out.join(format!("{}.rs", source.module));
-        take(&folder.join(source.file), source, &package, &copy, &changes);
+        take(&find(&folder, source), source, &package, &copy, &changes);
         modules.push_str(&format!(
             "#[allow(dead_code)]\n#[path = {:?}]\npub mod {};\n",
             text(&copy),
@@ -73,7 +69,7 @@ struct Change {
 }
 
 /// The changes that PANEL_CHANGE asks for: `FILE` all those in FILE, `FILE:NAME` the one named so.
-/// Only the script `mutants` sets it; without it every copy is unchanged.
+/// The scripts `mutants` and `branches` set it; without it every copy is unchanged.
 fn changes(package: &Path) -> Vec<Change> {
     println!("cargo::rerun-if-env-changed=PANEL_CHANGE");
     let wanted = env::var("PANEL_CHANGE").unwrap_or_default();
@@ -128,20 +124,46 @@ fn change(bytes: &[u8], module: &str, changes: &[Change]) -> Vec<u8> {
     lines.join("\n").into_bytes()
 }
 
+/// Where a source stands: as a text beside the others, by its own name, or in a whole checkout.
+fn find(folder: &Path, source: &Source) -> PathBuf {
+    let module = source.module;
+    let names = [
+        format!("src--crates--pemu-board--src--{module}.rs.txt"),
+        format!("{module}.rs"),
+        format!("crates/pemu-board/src/{module}.rs"),
+    ];
+    let mut places = names.iter().map(|name| folder.join(name));
+    let found = places.find(|place| place.is_file());
+    found.unwrap_or_else(|| {
+        refuse(&format!(
+            "no {module}.rs in {}: set PANEL_SRC to a checkout of the Rust's repository \
+             (NOTICE names it and its commit), or to the folder of the three texts {}",
+            text(folder),
+            names[0].replace(module, "*")
+        ))
+    })
+}
+
+/// The lines before the first that is `#[cfg(test)]`: a checkout may have its tests there.
+fn without_tests(bytes: &[u8]) -> Vec<u8> {
+    let lines = bytes.split_inclusive(|byte| *byte == b'\n');
+    let before = lines.take_while(|line| line.trim_ascii_end() != b"#[cfg(test)]");
+    before.flatten().copied().collect()
+}
+
 /// Checks one source and writes its copy: the unchanged bytes, then the line that hangs our module on.
 fn take(from: &Path, source: &Source, package: &Path, to: &Path, changes: &[Change]) {
     println!("cargo::rerun-if-changed={}", text(from));
     let Ok(bytes) = fs::read(from) else {
-        refuse(&format!(
-            "cannot read {} (PANEL_SRC names its folder)",
-            text(from)
-        ));
+        refuse(&format!("cannot read {}", text(from)));
     };
+    let bytes = without_tests(&bytes);
     let found = sha256(&bytes);
     if found != source.sha256 {
         refuse(&format!(
             "{} has SHA-256 {found}, expected {}: not the recorded source",
-            source.file, source.sha256
+            text(from),
+            source.sha256
         ));
     }
     let mut copy = bytes;

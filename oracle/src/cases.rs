@@ -151,7 +151,8 @@ impl Programs {
         Ok(programs)
     }
 
-    /// What our program answers; one that ends badly answers with its end as the last line.
+    /// What our program writes to standard output, its standard error left out; one that ends badly
+    /// answers with its end as the last line.
     pub fn answer(&self, case: &Case) -> io::Result<Vec<u8>> {
         fs::write(&self.input, &case.input)?;
         let program = match case.kind {

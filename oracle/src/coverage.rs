@@ -74,7 +74,7 @@ impl Coverage {
                 self.met.insert(format!("{call} high count: {count}"));
             }
         }
-        if ["view", "pixel", "dump"].contains(&call.as_str()) {
+        if ["view", "pixels", "pixel", "dump"].contains(&call.as_str()) {
             let (level, scale) = (panel.brightness().level(), panel.brightness().scale());
             let class = |n: u32| match n {
                 0 => "0",
@@ -119,6 +119,10 @@ impl Coverage {
         if !self.names {
             return;
         }
+        if name == "pixels" {
+            self.name_pixels(printed);
+            return;
+        }
         let printed: Vec<&str> = printed.split_whitespace().collect();
         let detail = match name.as_str() {
             "reset" | "view" | "power" | "switch" | "fresh" => text(words[1]),
@@ -140,6 +144,23 @@ impl Coverage {
             }
         }
         self.met.insert(format!("{name} {detail}"));
+    }
+
+    /// What the answer of `pixels` shows: of which view, with how many rows, with which runs.
+    fn name_pixels(&mut self, printed: &str) {
+        let mut lines = printed.lines();
+        let head = lines.next().unwrap_or_default();
+        let rows = lines.clone().count();
+        self.met.insert(format!("{head} {}", rows.min(2)));
+        self.met.insert(format!("pixels all rows {}", rows == 320));
+        for line in lines {
+            let runs: Vec<&str> = line.split(' ').skip(2).collect();
+            let whole = runs.len() == 1;
+            for run in runs {
+                let (black, one) = (run.starts_with("0000"), !run.contains('*'));
+                self.met.insert(format!("pixels run {black} {one} {whole}"));
+            }
+        }
     }
 
     /// Runs the Rust's transfer and counts what it did.

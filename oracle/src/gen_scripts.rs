@@ -38,7 +38,7 @@ const DOMAINS: [&str; 7] = [
 const VIEWS: [&str; 3] = ["raw", "glass", "perceived"];
 
 /// Lines that make no sense.
-const BAD_LINES: [&str; 52] = [
+const BAD_LINES: [&str; 55] = [
     "transfer",
     "transfer 0 0 0",
     "transfer 0 0 0 2c 00",
@@ -74,6 +74,9 @@ const BAD_LINES: [&str; 52] = [
     "fresh",
     "publish 1",
     "view all",
+    "pixels",
+    "pixels all",
+    "pixels raw 0",
     "pixel raw 0",
     "pixel raw 65536 0",
     "row view 0",
@@ -101,7 +104,10 @@ pub fn script(seed: u64) -> String {
 /// The script of a seed with at most this many scenes.
 pub fn script_of(seed: u64, most: u64) -> String {
     let random = &mut Random::new(seed);
-    let mut writer = Writer { lines: Vec::new() };
+    let mut writer = Writer {
+        lines: Vec::new(),
+        pixels: if most > 6 { 9 } else { 3 },
+    };
     if random.one_in(if most > 6 { 5 } else { 12 }) {
         writer.boot(random);
     }
@@ -135,6 +141,8 @@ pub fn script_of(seed: u64, most: u64) -> String {
 
 struct Writer {
     lines: Vec<String>,
+    /// Of so many whole views one is shown by its pixels: fewer in long scripts.
+    pixels: u64,
 }
 
 impl Writer {
@@ -268,13 +276,20 @@ impl Writer {
             9 => self.line("take-warnings"),
             10 => self.line(format!("reset {}", random.pick(&DOMAINS))),
             11 if random.one_in(3) => self.line(format!("fresh {}", random.below(2))),
-            12 => self.line(format!("view {}", random.pick(&VIEWS))),
+            12 => self.view(random),
             13..=15 => self.pixel(random),
             16..=18 => self.row(random),
             19 | 20 => self.line("boot"),
             21 if random.one_in(4) => self.line("dump"),
             _ => self.line("transfer 0 1 0 -"),
         }
+    }
+
+    /// A whole view by its digest, or at times by its pixels.
+    fn view(&mut self, random: &mut Random) {
+        let pixels = random.one_in(self.pixels);
+        let call = if pixels { "pixels" } else { "view" };
+        self.line(format!("{call} {}", random.pick(&VIEWS)));
     }
 
     fn pixel(&mut self, random: &mut Random) {
@@ -316,7 +331,7 @@ impl Writer {
                 4 => self.line(format!("set on {}", random.below(2))),
                 _ => self.brightness(random),
             }
-            self.line(format!("view {}", random.pick(&VIEWS)));
+            self.view(random);
             self.pixel(random);
         }
     }
@@ -333,7 +348,7 @@ impl Writer {
                 5 => self.line("bare 7 0 0 3c"),
                 6 => self.line("bare 7 1 0 f800"),
                 7 => self.line("publish"),
-                8 => self.line(format!("view {}", random.pick(&VIEWS))),
+                8 => self.view(random),
                 9 => self.pixel(random),
                 10 => self.row(random),
                 11 => self.line("boot"),

@@ -169,13 +169,22 @@ fn candidate(kind: Kind, number: u64) -> Case {
 /// The seed of the lists.
 const LIST_SEED: u64 = 7789;
 
-/// A script of the list has no line that begins with `case`, and few calls that take long.
+/// The calls of a script that take long.
+const SLOW: [&str; 6] = [
+    "dump",
+    "view",
+    "pixels",
+    "publish",
+    "fresh",
+    "reset board_rail",
+];
+
+/// True of a log, and of a script with few calls that take long.
 fn fits(case: &Case) -> bool {
     let text = String::from_utf8_lossy(&case.input).into_owned();
-    let slow = ["dump", "view", "publish", "fresh", "reset board_rail"];
     let slow = text
         .lines()
-        .filter(|line| slow.iter().any(|name| line.contains(name)));
+        .filter(|line| SLOW.iter().any(|name| line.trim_start().starts_with(name)));
     let commands = text
         .lines()
         .any(|line| line.contains(" 0 0 ") && line.contains("*65536"));

@@ -117,7 +117,7 @@ fn main() -> ExitCode {
     }
 }
 
-/// Stops what needs the unchanged Rust in a build whose copy was changed for `mutants`.
+/// Stops what needs the unchanged Rust in a build whose copy was changed by PANEL_CHANGE.
 fn unchanged() -> io::Result<()> {
     match env!("ORACLE_CHANGED") {
         "" => Ok(()),

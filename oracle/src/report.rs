@@ -3,7 +3,7 @@
 use std::fmt::Write;
 
 use crate::st7789::reach::hidden;
-use crate::st7789::{FrameView, MAX_PARAMS, St7789p3, TRACE_LIMIT};
+use crate::st7789::{FrameView, MAX_PARAMS, PANEL_WIDTH, St7789p3, TRACE_LIMIT};
 use crate::st7789::{TimingLint, TimingWarning, TraceEntry};
 
 pub const VIEWS: [(&str, FrameView); 3] = [
@@ -65,10 +65,11 @@ pub fn dump(panel: &St7789p3, frame: &[u16], out: &mut String) {
     line(
         out,
         format_args!(
-            "ctl {} {} {} {}",
+            "ctl {} {} {} {} {}",
             bit(panel.powered()),
             bit(panel.config().invon_shows_ram),
             panel.brightness().level(),
+            panel.brightness().scale(),
             inner.frame_duty,
         ),
     );
@@ -138,14 +139,36 @@ pub fn span(span: Option<(u16, u16)>) -> String {
     }
 }
 
-/// Two sums modulo 2^64: of each number plus one, and of the first sum so far.
+/// Two numbers of 8 hex digits, joined; the order of the numbers counts in both.
 pub fn digest(numbers: &[u16]) -> String {
-    let (mut a, mut b) = (0u64, 0u64);
-    for number in numbers {
-        a = a.wrapping_add(u64::from(*number) + 1);
-        b = b.wrapping_add(a);
+    let first = folded::<1_000_003, 4_294_967_291>(numbers);
+    let second = folded::<998_244_353, 4_294_967_279>(numbers);
+    format!("{first:08x}{second:08x}")
+}
+
+/// From 0 on, for each number v in order: h becomes (h x K + v + 1) mod M.
+fn folded<const K: u64, const M: u64>(numbers: &[u16]) -> u64 {
+    let step = |h, v: &u16| (h * K + u64::from(*v) + 1) % M;
+    numbers.iter().fold(0, step)
+}
+
+/// For each row of a whole view that is not all 0 a line `p ROW` and its runs.
+pub fn pixel_lines(numbers: &[u16], out: &mut String) {
+    for (row, pixels) in numbers.chunks(usize::from(PANEL_WIDTH)).enumerate() {
+        if pixels.iter().any(|pixel| *pixel != 0) {
+            let runs = pixels.chunk_by(|a, b| a == b);
+            let runs: String = runs.map(run_text).collect();
+            line(out, format_args!("p {row}{runs}"));
+        }
     }
-    format!("{a:016x}{b:016x}")
+}
+
+/// A run of equal pixels after a space: `HHHH` for one, `HHHH*N` for more.
+fn run_text(run: &[u16]) -> String {
+    match run {
+        [pixel] => format!(" {pixel:04x}"),
+        _ => format!(" {:04x}*{}", run[0], run.len()),
+    }
 }
 
 pub fn bit(value: bool) -> u8 {

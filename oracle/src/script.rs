@@ -5,6 +5,7 @@ use std::sync::atomic::{AtomicBool, Ordering};
 use pemu_core::hostio::FramePort;
 use pemu_core::time::VTime;
 
+use crate::backlight::Brightness;
 use crate::backlight::reach::pair;
 use crate::coverage::Coverage;
 use crate::refusals::{self, Lent};
@@ -71,9 +72,18 @@ pub fn run_seen(script: &[u8], seen: Option<&mut Coverage>) -> String {
 }
 
 fn fresh(switch: bool) -> St7789p3 {
-    St7789p3::new(PanelConfig {
+    let mut panel = St7789p3::new(PanelConfig {
         invon_shows_ram: switch,
-    })
+    });
+    fresh_scale(&mut panel);
+    panel
+}
+
+/// Gives the Rust's fresh pair, level 0 over 1024, the scale 1 of document 01.
+fn fresh_scale(panel: &mut St7789p3) {
+    if panel.brightness() == Brightness::OFF {
+        *fields(panel).brightness = pair(0, 1);
+    }
 }
 
 impl Bench<'_> {
@@ -142,6 +152,9 @@ impl Bench<'_> {
                     .find(|d| d.name().as_bytes() == *domain)?;
                 if accepted(refusals::memory(self.lent), out) {
                     self.panel.reset(domain);
+                    if domain == BoardDomain::BoardRail {
+                        fresh_scale(&mut self.panel);
+                    }
                 }
             }
             [b"fresh", switch] => {
@@ -162,6 +175,13 @@ impl Bench<'_> {
                 if accepted(refusals::view(self.lent), out) {
                     let numbers = self.panel.frame(view);
                     line(out, format_args!("view {name} {}", digest(&numbers)));
+                }
+            }
+            [b"pixels", name] => {
+                let (name, view) = view_named(name)?;
+                if accepted(refusals::view(self.lent), out) {
+                    line(out, format_args!("pixels {name}"));
+                    report::pixel_lines(&self.panel.frame(view), out);
                 }
             }
             [b"pixel", name, x, y] => {

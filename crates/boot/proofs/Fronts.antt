@@ -6,6 +6,7 @@ use mathlib.Core.List.{List, [], _∷_}
 use native.Mathlib.Omega.{arith}
 use lib.ListN.{length, take}
 use Rattle.lists.specs.declared.TraceRecord.{TraceRecord}
+use Rattle.lists.specs.Fixed.{places}
 use Rattle.lists.proofs.Fronts.{take-most}
 use Rattle.sequence.specs.Sequence.{bootSequence}
 use Rattle.boot.specs.Boot.{fits, answered, comparedFrom, compared}
@@ -28,9 +29,10 @@ looked records k h l =
     let m : k ≡ min 23 (length records) = omega arith in
     ap (λ i. compared (take i records)) m ∙ ap compared (take-most 23 records) ∙ past-23 records
 
--- A count above 128 is all 128.
-pub used :
-    (records : List TraceRecord) {n w used : ℕ} → length records ≡ 128 → n ≡ min w 128 → w ≡ used → compared (take n records) ≡ compared (take used records)
-used records {n} {w} {used} long e f =
+-- A count above the places is all of them.
+pub used-front :
+    (records : List TraceRecord) (used : ℕ) {n : ℕ} → length records ≡ places → n ≡ min used places →
+    compared (take n records) ≡ compared (take used records)
+used-front records used {n} long e =
     let m : n ≡ min used (length records) = omega arith in
     ap (λ i. compared (take i records)) m ∙ ap compared (take-most used records)

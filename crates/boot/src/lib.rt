@@ -3,8 +3,10 @@ ghost use mathlib.Core.Path.{_≡_};
 ghost use mathlib.Core.List.{[], _∷_};
 ghost use Prim.Native.Nat.{_-_, _≤_, min};
 ghost use lib.ListN.{take, drop};
+ghost use Rattle.lists.specs.Fixed.{places};
 ghost use Rattle.sequence.specs.Sequence.{bootSequence};
 ghost use Rattle.boot.specs.Boot.{fits, emptyRecord, answered, comparedFrom, compared, judged, stepOf};
+use lists::PLACES;
 use lists::Params;
 use lists::TraceRecord;
 use sequence::BootStep;
@@ -140,16 +142,16 @@ pub fn boot_mismatch(records: &[TraceRecord]) -> Compared
     c
 }
 
-fn first_mismatch(records: [TraceRecord; 128], n: usize) -> Compared
-    requires { ⌜ n ≤ 128 ⌝ }
+fn first_mismatch(records: [TraceRecord; PLACES], n: usize) -> Compared
+    requires { ⌜ n ≤ places ⌝ }
     ensures { λ r. ⌜ r ≡ compared (take n records) ⌝ }
 {
     boot_mismatch(&records[..n])
 }
 
 // The same of a trace by value, of which the first `used` records are used: at most all 128.
-pub fn trace_mismatch(records: [TraceRecord; 128], used: u8) -> Compared
+pub fn trace_mismatch(records: [TraceRecord; PLACES], used: u8) -> Compared
     ensures answer { λ r. ⌜ r ≡ compared (take used records) ⌝ }
 {
-    first_mismatch(records, lesser(wide(used), 128))
+    first_mismatch(records, lists::free(used, PLACES))
 }

@@ -1,4 +1,4 @@
--- A data segment in two parts leaves the controller that the whole leaves, and stores what the whole stores.
+-- A data segment in two parts leaves the panel that the whole leaves, and stores what the whole stores.
 use Prim.Native.Nat.{ℕ, _+_, _-_, _*_, _≤_, _<_, min}
 use mathlib.Core.Path.{_≡_, refl, sym, ap, ap₂, _∙_}
 use mathlib.Core.Bool.{Bool, true, false, not, cond, _&&_, _||_}
@@ -19,7 +19,6 @@ use Rattle.lists.specs.Fixed.{Fixed, push, pushAll}
 use Rattle.lists.specs.Params.{fixed, unfixed, filled, excess}
 use Rattle.lists.specs.Entries.{placeOf}
 use Rattle.lists.specs.declared.Params.{Params}
-use Rattle.lists.specs.declared.Stored.{Stored}
 use Rattle.lists.specs.declared.TraceRecord.{TraceRecord}
 use Rattle.lists.specs.declared.Current.{Current}
 use Rattle.lists.specs.declared.Current.the-variants.{Nothing, At}
@@ -31,8 +30,11 @@ use Rattle.chip.specs.declared.Chip.{Chip}
 use Rattle.chip.specs.declared.InForce.{InForce}
 use Rattle.chip.specs.declared.InForce.the-variants.{Code}
 use Rattle.st7789.specs.Parts.{whole}
-use Rattle.st7789.specs.Data.{noRecord, onCurrent, morePixels, moreParams, walkedChip, ran, taken, dataFor, dataIn, storesIn}
+use Rattle.st7789.specs.Data.{noRecord, onCurrent, morePixels, moreParams, walkedChip, ran, taken, takenFor, controllerData, dataIn, storesIn}
 use Rattle.st7789.specs.declared.Controller.{Controller}
+use Rattle.st7789.specs.declared.St7789p3.{St7789p3}
+use Rattle.st7789.proofs.Commands.{same-panel}
+use Rattle.laws.proofs.Stays.{dataBy}
 
 -- Parameters: filling them in two parts, and counting what is dropped.
 pub filled-cut : (p : Params) (a b : List ℕ) → filled p (a ++ b) ≡ filled (filled p a) b
@@ -205,103 +207,115 @@ more-pixels a b r = ap (λ n. record { at = r .at; «pixel_bytes» = n; params =
 more-params : (a b : List ℕ) (r : TraceRecord) → moreParams b (moreParams a r) ≡ moreParams (a ++ b) r
 more-params a b r = ap (λ p. record { at = r .at; «pixel_bytes» = r .«pixel_bytes»; params = p; cmd = r .cmd }) (sym (filled-cut (r .params) a b))
 
--- The controller, by whether it is in a run and by the command in force.
-data-by :
-    (bytes : List ℕ) (s : Controller) (r : Bool) (k : InForce) → s .chip .decoder .«in_pixels» ≡ r → s .chip .decoder .cmd ≡ k →
-    dataIn bytes s ≡ cond r (ran bytes s) (dataFor k bytes s)
-data-by bytes s r k e f = ap₂ (λ x y. cond x (ran bytes s) (dataFor y bytes s)) e f
-
 stores-by :
-    (bytes : List ℕ) (s : Controller) (r : Bool) → s .chip .decoder .«in_pixels» ≡ r →
-    storesIn true bytes s ≡ cond r (stores (s .chip .window) (s .chip .registers .madctl) (s .chip .walk) bytes) []
-stores-by bytes s r e = ap (λ x. cond x (stores (s .chip .window) (s .chip .registers .madctl) (s .chip .walk) bytes) []) e
+    (bytes : List ℕ) (k : Controller) (r : Bool) → k .chip .decoder .«in_pixels» ≡ r →
+    storesIn true bytes k ≡ cond r (stores (k .chip .window) (k .chip .registers .madctl) (k .chip .walk) bytes) []
+stores-by bytes k r e = ap (λ x. cond x (stores (k .chip .window) (k .chip .registers .madctl) (k .chip .walk) bytes) []) e
 
-module _ (a b : List ℕ) (s : Controller) where
-  ran-cut : ran (a ++ b) s ≡ ran b (ran a s)
+module _ (a b : List ℕ) (k : Controller) where
+  ran-cut : ran (a ++ b) k ≡ ran b (ran a k)
   unfolding ran
   ran-cut =
-      let w = s .chip .window in
-      let k = s .chip .walk in
+      let w = k .chip .window in
+      let l = k .chip .walk in
       made
-      (walk-cut w a b k)
-      (ap (λ n. s .counts .«pixels_written» + (0 + n)) (count-cut w a b k)
-      ∙ sums (s .counts .«pixels_written») (pixelsCounted w k a) (pixelsCounted w (walkAfter w k a) b))
-      (ap (marked (s .marks .dirty)) (stores-cut w a b k (s .chip .registers .madctl)) ∙ foldl-append (λ d x. mark d (rowOf x)) (s .marks .dirty) (stores w (s .chip .registers .madctl) k a) (stores w (s .chip .registers .madctl) (walkAfter w k a) b))
-      (sym (onCurrent-twice (morePixels (length a)) (morePixels (length b)) (morePixels (length (a ++ b))) (more-pixels a b) (s .logs .current) (s .records)))
+      (walk-cut w a b l)
+      (ap (λ n. k .counts .«pixels_written» + (0 + n)) (count-cut w a b l)
+      ∙ sums (k .counts .«pixels_written») (pixelsCounted w l a) (pixelsCounted w (walkAfter w l a) b))
+      (ap (marked (k .marks .dirty)) (stores-cut w a b l (k .chip .registers .madctl)) ∙ foldl-append (λ d x. mark d (rowOf x)) (k .marks .dirty) (stores w (k .chip .registers .madctl) l a) (stores w (k .chip .registers .madctl) (walkAfter w l a) b))
     where
       sums : (x m n : ℕ) → x + (0 + (m + n)) ≡ x + (0 + m) + (0 + n)
       sums x m n = omega arith
 
-      by : Walk → ℕ → Span → List TraceRecord → Controller
-      by k n d l =
-          whole (s .cfg) (s .power) (walkedChip k (s .chip))
+      by : Walk → ℕ → Span → Controller
+      by l n d =
+          whole (k .cfg) (k .power) (walkedChip l (k .chip))
           (record {
-            commands = s .counts .commands;
-            «ramwr_count» = s .counts .«ramwr_count»;
+            commands = k .counts .commands;
+            «ramwr_count» = k .counts .«ramwr_count»;
             «pixels_written» = n;
-            «dropped_params» = s .counts .«dropped_params»;
+            «dropped_params» = k .counts .«dropped_params»;
           })
-          d (s .logs) (s .stored) l (s .warnings)
+          d (k .logs)
 
-      made :
-          {k k′ : Walk} {n n′ : ℕ} {d d′ : Span} {l l′ : List TraceRecord} → k ≡ k′ → n ≡ n′ → d ≡ d′ → l ≡ l′ → by k n d l ≡ by k′ n′ d′ l′
-      made {k} {k′} {n} {n′} {d} {d′} {l} {l′} e f g h = ap₂ (λ x y. by x y d l) e f ∙ ap₂ (λ x y. by k′ n′ x y) g h
+      made : {l l′ : Walk} {n n′ : ℕ} {d d′ : Span} → l ≡ l′ → n ≡ n′ → d ≡ d′ → by l n d ≡ by l′ n′ d′
+      made {l} {l′} {n} {n′} {d} {d′} e f g = ap₂ (λ x y. by x y d) e f ∙ ap (by l′ n′) g
 
-  taken-cut : (c : ℕ) → taken c (a ++ b) s ≡ taken c b (taken c a s)
+  taken-cut : (c : ℕ) → taken c (a ++ b) k ≡ taken c b (taken c a k)
   unfolding taken
   taken-cut c =
-      let p = s .chip .decoder .params in
-      let q = chipTaken c a (s .chip) .decoder .params in
-      let e : filled p a ≡ q = sym (taken-decoder c a (s .chip) .0) in
-      made
-      (chip-cut c a b (s .chip))
-      (ap (λ n. s .counts .«dropped_params» + n) (excess-cut p a b ∙ ap (λ x. excess p (length a) + excess x (length b)) e)
-      ∙ sym (add-assoc (s .counts .«dropped_params») (excess p (length a)) (excess q (length b))))
-      (ap (λ x. set (s .stored) (placeOf c) (record { present = true; params = x })) (filled-cut p a b ∙ ap (λ x. filled x b) e)
-      ∙ sym (set-set (s .stored) (placeOf c) (record { present = true; params = filled p a }) (record { present = true; params = filled q b })))
-      (sym (onCurrent-twice (moreParams a) (moreParams b) (moreParams (a ++ b)) (more-params a b) (s .logs .current) (s .records)))
+      let p = k .chip .decoder .params in
+      let q = chipTaken c a (k .chip) .decoder .params in
+      ap₂ by
+      (chip-cut c a b (k .chip))
+      (ap (λ n. k .counts .«dropped_params» + n)
+      (excess-cut p a b ∙ ap (λ x. excess p (length a) + excess x (length b)) (sym (taken-decoder c a (k .chip) .0)))
+      ∙ sym (add-assoc (k .counts .«dropped_params») (excess p (length a)) (excess q (length b))))
     where
-      by : Chip → ℕ → List Stored → List TraceRecord → Controller
-      by k n e l =
-          whole (s .cfg) (s .power) k
+      by : Chip → ℕ → Controller
+      by chip n =
+          whole (k .cfg) (k .power) chip
           (record {
-            commands = s .counts .commands;
-            «ramwr_count» = s .counts .«ramwr_count»;
-            «pixels_written» = s .counts .«pixels_written»;
+            commands = k .counts .commands;
+            «ramwr_count» = k .counts .«ramwr_count»;
+            «pixels_written» = k .counts .«pixels_written»;
             «dropped_params» = n;
           })
-          (s .marks .dirty) (s .logs) e l (s .warnings)
+          (k .marks .dirty) (k .logs)
 
-      made :
-          {k k′ : Chip} {n n′ : ℕ} {e e′ : List Stored} {l l′ : List TraceRecord} → k ≡ k′ → n ≡ n′ → e ≡ e′ → l ≡ l′ → by k n e l ≡ by k′ n′ e′ l′
-      made {k} {k′} {n} {n′} {e = u} {l} e f g h = ap₂ (λ x y. by x y u l) e f ∙ ap₂ (λ x y. by k′ n′ x y) g h
+  -- The two parts of a segment store what the whole stores.
+  pub stores-both : storesIn true (a ++ b) k ≡ storesIn true a k ++ storesIn true b (controllerData a k)
+  unfolding ran taken
+  stores-both = go (k .chip .decoder .«in_pixels») (k .chip .decoder .cmd) refl
+    where
+      go :
+          (r : Bool) (f : InForce) → k .chip .decoder .«in_pixels» ≡ r →
+          cond r (stores (k .chip .window) (k .chip .registers .madctl) (k .chip .walk) (a ++ b)) [] ≡
+          cond r (stores (k .chip .window) (k .chip .registers .madctl) (k .chip .walk) a) []
+          ++ storesIn true b (cond r (ran a k) (takenFor f a k))
+      go true f e =
+          stores-cut (k .chip .window) a b (k .chip .walk) (k .chip .registers .madctl)
+          ∙ ap (λ l. stores (k .chip .window) (k .chip .registers .madctl) (k .chip .walk) a ++ l) (sym (stores-by b (ran a k) true e))
+      go false InForce.Nothing e = sym (stores-by b k false e)
+      go false (Code c) e = sym (stores-by b (taken c a k) false (taken-decoder c a (k .chip) .2 ∙ e))
+
+-- The panel, by whether it is in a run and by the command in force.
+data-by :
+    (bytes : List ℕ) (s : St7789p3) (r : Bool) (f : InForce) → s .controller .chip .decoder .«in_pixels» ≡ r → s .controller .chip .decoder .cmd ≡ f →
+    dataIn bytes s ≡ dataBy r f bytes s
+unfolding dataIn
+data-by bytes s r f e g = ap₂ (λ x y. dataBy x y bytes s) e g
+
+module _ (a b : List ℕ) (s : St7789p3) where
+  by-cut : (r : Bool) (f : InForce) → dataBy r f (a ++ b) s ≡ dataBy r f b (dataBy r f a s)
+  unfolding ran taken
+  by-cut true f =
+      same-panel (ran-cut a b (s .controller)) refl
+      (sym (onCurrent-twice (morePixels (length a)) (morePixels (length b)) (morePixels (length (a ++ b))) (more-pixels a b) (s .controller .logs .current) (s .records)))
+      refl
+  by-cut false InForce.Nothing =
+      same-panel refl refl
+      (sym (onCurrent-twice (λ r. r) (λ r. r) (λ r. r) (λ r. refl) (s .controller .logs .current) (s .records))) refl
+  by-cut false (Code c) =
+      let p = s .controller .chip .decoder .params in
+      let q = chipTaken c a (s .controller .chip) .decoder .params in
+      same-panel (taken-cut a b (s .controller) c)
+      (ap (λ x. set (s .stored) (placeOf c) (record { present = true; params = x }))
+      (filled-cut p a b ∙ ap (λ x. filled x b) (sym (taken-decoder c a (s .controller .chip) .0)))
+      ∙ sym (set-set (s .stored) (placeOf c) (record { present = true; params = filled p a }) (record { present = true; params = filled q b })))
+      (sym (onCurrent-twice (moreParams a) (moreParams b) (moreParams (a ++ b)) (more-params a b) (s .controller .logs .current) (s .records)))
+      refl
 
   -- The cut law: data in two parts leaves what the whole leaves.
   pub data-cut : dataIn (a ++ b) s ≡ dataIn b (dataIn a s)
-  unfolding ran taken
-  data-cut = go (s .chip .decoder .«in_pixels») (s .chip .decoder .cmd) refl refl
+  unfolding dataIn ran taken
+  data-cut = go (s .controller .chip .decoder .«in_pixels») (s .controller .chip .decoder .cmd) refl refl
     where
       go :
-          (r : Bool) (k : InForce) → s .chip .decoder .«in_pixels» ≡ r → s .chip .decoder .cmd ≡ k →
-          cond r (ran (a ++ b) s) (dataFor k (a ++ b) s) ≡ dataIn b (cond r (ran a s) (dataFor k a s))
-      go true k e f = ran-cut ∙ sym (data-by b (ran a s) true k e f)
-      go false InForce.Nothing e f = sym (data-by b s false InForce.Nothing e f)
-      go false (Code c) e f =
-          let d = taken-decoder c a (s .chip) in
-          taken-cut c ∙ sym (data-by b (taken c a s) false (Code c) (d .2 ∙ e) (d .1 ∙ f))
-
-  -- And its two parts store what the whole stores.
-  pub stores-both : storesIn true (a ++ b) s ≡ storesIn true a s ++ storesIn true b (dataIn a s)
-  unfolding ran taken
-  stores-both = go (s .chip .decoder .«in_pixels») (s .chip .decoder .cmd) refl
-    where
-      go :
-          (r : Bool) (k : InForce) → s .chip .decoder .«in_pixels» ≡ r →
-          cond r (stores (s .chip .window) (s .chip .registers .madctl) (s .chip .walk) (a ++ b)) [] ≡
-          cond r (stores (s .chip .window) (s .chip .registers .madctl) (s .chip .walk) a) []
-          ++ storesIn true b (cond r (ran a s) (dataFor k a s))
-      go true k e =
-          stores-cut (s .chip .window) a b (s .chip .walk) (s .chip .registers .madctl)
-          ∙ ap (λ l. stores (s .chip .window) (s .chip .registers .madctl) (s .chip .walk) a ++ l) (sym (stores-by b (ran a s) true e))
-      go false InForce.Nothing e = sym (stores-by b s false e)
-      go false (Code c) e = sym (stores-by b (taken c a s) false (taken-decoder c a (s .chip) .2 ∙ e))
+          (r : Bool) (f : InForce) → s .controller .chip .decoder .«in_pixels» ≡ r → s .controller .chip .decoder .cmd ≡ f →
+          dataBy r f (a ++ b) s ≡ dataIn b (dataBy r f a s)
+      go true f e g = by-cut true f ∙ sym (data-by b (dataBy true f a s) true f e g)
+      go false InForce.Nothing e g = by-cut false InForce.Nothing ∙ sym (data-by b (dataBy false InForce.Nothing a s) false InForce.Nothing e g)
+      go false (Code c) e g =
+          let d = taken-decoder c a (s .controller .chip) in
+          by-cut false (Code c) ∙ sym (data-by b (dataBy false (Code c) a s) false (Code c) (d .2 ∙ e) (d .1 ∙ g))

@@ -9,12 +9,13 @@ use Rattle.pixels.specs.Run.{stores, walkAfter, pixelsCounted}
 use Rattle.lists.proofs.Bools.{both}
 use Rattle.lists.specs.Params.{filled, differ}
 use Rattle.timing.specs.Lint.{brokenBy, timesAfter}
+use Rattle.board.specs.Board.{switchedTo}
 use Rattle.chip.specs.Begin.{freshChip, chipBegun, chipReleased}
 use Rattle.chip.specs.Apply.{appliedIfDue, chipTaken}
-use Rattle.st7789.specs.Command.{begun, released}
-use Rattle.st7789.specs.Data.{ran, taken}
-use Rattle.st7789.specs.Refusals.{badState, countHigh, transferRefusal}
-use Rattle.st7789.specs.Entries.{freshController, moved, transferred, transferMemory, resetState, resetMemory}
+use Rattle.st7789.specs.Command.{begun, controllerReleased}
+use Rattle.st7789.specs.Data.{ran, taken, dataIn}
+use Rattle.st7789.specs.Refusals.{badState, transferRefusal}
+use Rattle.st7789.specs.Entries.{freshController, emptyLists, moved, transferred, transferMemory, resetState, resetMemory}
 use Rattle.publishing.specs.Publish.{publishRefusal, published, publishedFrame}
 use Rattle.hosts.specs.Calls.{Host, Call, Accepted, fresh, refusal, step, run}
 use Rattle.hosts.specs.Hosts.{rest, part, between, Makes, done, besides, same, sends, Demand3}
@@ -47,21 +48,25 @@ passed h (c ∷ calls) e =
 
 -- One name that opens every definition, for what is computed.
 unfoldable opened : Bool
-unfolding mapOf outcome next stores walkAfter pixelsCounted filled differ brokenBy timesAfter freshChip chipBegun chipReleased appliedIfDue chipTaken begun released ran taken badState countHigh transferRefusal freshController moved transferred transferMemory resetState resetMemory publishRefusal published publishedFrame refusal step
+unfolding mapOf outcome next stores walkAfter pixelsCounted filled differ brokenBy timesAfter freshChip chipBegun chipReleased appliedIfDue chipTaken begun controllerReleased ran taken dataIn badState transferRefusal freshController emptyLists moved transferred transferMemory resetState resetMemory publishRefusal published publishedFrame refusal step
 opened = true
 
-first-passes : passes (fresh true) first ≡ true
+-- Both panels have the switch on.
+abbrev shown : Host
+shown = fresh (switchedTo true)
+
+first-passes : passes shown first ≡ true
 unfolding opened
 first-passes = refl
 
-second-passes : passes (fresh true) second ≡ true
+second-passes : passes shown second ≡ true
 unfolding opened
 second-passes = refl
 
-pub first-and-second : Demand3 true first second
+pub first-and-second : Demand3 (switchedTo true) first second
 first-and-second =
-    two-hosts true plan first second first-makes second-makes (passed (fresh true) first first-passes) (passed (fresh true) second second-passes)
+    two-hosts (switchedTo true) plan first second first-makes second-makes (passed shown first first-passes) (passed shown second second-passes)
 
-second-left : leftOver (run (fresh true) second) ≡ true
+second-left : leftOver (run shown second) ≡ true
 unfolding opened
 second-left = refl

@@ -6,9 +6,12 @@ use mathlib.Core.List.{List, [], _∷_, foldl}
 use lib.ListN.{length, replicate}
 use Rattle.status.specs.Tests.{memoryRefusal}
 use Rattle.board.specs.declared.BoardDomain.{BoardDomain}
+use Rattle.board.specs.declared.PanelConfig.{PanelConfig}
+use Rattle.st7789.specs.Parts.{withController}
 use Rattle.st7789.specs.Refusals.{transferRefusal}
-use Rattle.st7789.specs.Entries.{freshController, transferred, transferMemory, resetState, resetMemory, poweredSet, showsSet, brightnessSet, allMarked}
+use Rattle.st7789.specs.Entries.{freshPanel, transferred, transferMemory, resetState, resetMemory, poweredSet, showsSet, brightnessSet, allMarked}
 use Rattle.st7789.specs.declared.Controller.{Controller}
+use Rattle.st7789.specs.declared.St7789p3.{St7789p3}
 use Rattle.views.specs.Views.{frameRefusal}
 use Rattle.views.specs.declared.FrameView.{FrameView}
 use Rattle.views.specs.declared.Memory.{Memory}
@@ -16,7 +19,7 @@ use Rattle.publishing.specs.Publish.{publishRefusal, published, publishedFrame}
 
 -- A panel, "whose memory only its own transfers and board-rail resets write, and an all-zero frame that only its own publishing writes".
 pub record Host : Type 0 where
-  pub controller : Controller
+  pub panel : St7789p3
   pub memory : List ℕ
   pub frame : List ℕ
 
@@ -37,15 +40,15 @@ pub data Call : Type 0 where
   row : Memory → ℕ → Call
   compare : Call
 
--- "a fresh panel, equally set, .. and an all-zero frame": the switch as both set it.
-abbrev pub fresh : Bool → Host
-fresh on = record { controller = freshController on; memory = replicate 76800 0; frame = replicate 76800 0 }
+-- "a fresh panel, equally set, .. and an all-zero frame": one configuration, and so the switch as both set it.
+abbrev pub fresh : PanelConfig → Host
+fresh cfg = record { panel = freshPanel cfg; memory = replicate 76800 0; frame = replicate 76800 0 }
 
 -- The number of the refusal that a call is given, 0 for none.
 unfoldable pub refusal : Host → Call → ℕ
-refusal h (commands t bytes cs) = transferRefusal (h .controller) (length (h .memory)) (length bytes)
-refusal h (segment t bytes cs) = transferRefusal (h .controller) (length (h .memory)) (length bytes)
-refusal h publish = publishRefusal (h .controller) (length (h .memory)) (length (h .frame))
+refusal h (commands t bytes cs) = transferRefusal (h .panel) (length (h .memory)) (length bytes)
+refusal h (segment t bytes cs) = transferRefusal (h .panel) (length (h .memory)) (length bytes)
+refusal h publish = publishRefusal (h .panel) (length (h .memory)) (length (h .frame))
 refusal h (reset domain) = memoryRefusal (length (h .memory))
 refusal h markAll = 0
 refusal h (power on) = 0
@@ -60,14 +63,14 @@ refusal h compare = 0
 abbrev pub transfer : ℕ → Bool → List ℕ → Bool → Host → Host
 transfer t dc bytes cs h =
     record {
-      controller = transferred t dc bytes cs (length (h .memory)) (h .controller);
-      memory = transferMemory dc bytes (h .memory) (h .controller);
+      panel = transferred t dc bytes cs (length (h .memory)) (h .panel);
+      memory = transferMemory dc bytes (h .memory) (h .panel);
       frame = h .frame;
     }
 
--- The same memory and frame with another controller.
+-- The same lists, memory and frame with another controller.
 abbrev pub with : Controller → Host → Host
-with s h = record { controller = s; memory = h .memory; frame = h .frame }
+with k h = record { panel = withController k (h .panel); memory = h .memory; frame = h .frame }
 
 -- "each call takes its panel's newest state, and the memory and frame lent to it are always these"
 unfoldable pub step : Host → Call → Host
@@ -75,20 +78,20 @@ step h (commands t bytes cs) = transfer t false bytes cs h
 step h (segment t bytes cs) = transfer t true bytes cs h
 step h publish =
     record {
-      controller = published (refusal h publish) (h .controller);
+      panel = published (refusal h publish) (h .panel);
       memory = h .memory;
-      frame = publishedFrame (refusal h publish) (h .controller) (h .memory) (h .frame);
+      frame = publishedFrame (refusal h publish) (h .panel) (h .memory) (h .frame);
     }
 step h (reset domain) =
     record {
-      controller = resetState domain (length (h .memory)) (h .controller);
+      panel = resetState domain (length (h .memory)) (h .panel);
       memory = resetMemory domain (h .memory);
       frame = h .frame;
     }
-step h markAll = with (allMarked (h .controller)) h
-step h (power on) = with (poweredSet on (h .controller)) h
-step h (shows on) = with (showsSet on (h .controller)) h
-step h (brightness level scale duty) = with (brightnessSet level scale duty (h .controller)) h
+step h markAll = with (allMarked (h .panel .controller)) h
+step h (power on) = with (poweredSet on (h .panel .controller)) h
+step h (shows on) = with (showsSet on (h .panel .controller)) h
+step h (brightness level scale duty) = with (brightnessSet level scale duty (h .panel .controller)) h
 step h (pixel v x y) = h
 step h (view v room) = h
 step h (row m r) = h

@@ -9,6 +9,7 @@ use Rattle.pixels.specs.Spans.{allRows}
 use Rattle.pixels.specs.declared.Span.{Span}
 use Rattle.pixels.specs.declared.Span.the-variants.{Nothing, Rows}
 use Rattle.board.specs.Board.{isBoardRail}
+use Rattle.board.specs.declared.PanelConfig.{PanelConfig}
 use Rattle.st7789.specs.Data.{storesIn}
 use Rattle.publishing.specs.Publish.{inSpan}
 use Rattle.hosts.specs.Calls.{Host, Call, commands, segment, publish, reset, markAll, power, shows, brightness, pixel, view, row, compare, fresh, refusal, step, run, Accepted}
@@ -74,7 +75,7 @@ nothingSince = record { all = false; rows = [] }
 -- What is noted after one call more.
 unfoldable pub noted : Host → Since → Call → Since
 noted h s (commands t bytes cs) = s
-noted h s (segment t bytes cs) = record { all = s .all; rows = s .rows ++ map rowOf (storesIn true bytes (h .controller)) }
+noted h s (segment t bytes cs) = record { all = s .all; rows = s .rows ++ map rowOf (storesIn true bytes (h .panel .controller)) }
 noted h s publish = nothingSince
 noted h s (reset domain) = record { all = isBoardRail domain || s .all; rows = s .rows }
 noted h s markAll = record { all = true; rows = s .rows }
@@ -92,8 +93,8 @@ sinceFrom h s [] = s
 sinceFrom h s (c ∷ calls) = sinceFrom (step h c) (noted h s c) calls
 
 -- A fresh panel and an all-zero frame: nothing was stored, and nothing is to be copied.
-abbrev pub since : Bool → List Call → Since
-since on calls = sinceFrom (fresh on) nothingSince calls
+abbrev pub since : PanelConfig → List Call → Since
+since cfg calls = sinceFrom (fresh cfg) nothingSince calls
 
 -- "the smallest holding every row": it holds each of them, and its first and its last are among them.
 pub record Smallest (first last : ℕ) (rows : List ℕ) : Type 0 where
@@ -117,36 +118,36 @@ rowIn r memory = take 240 (drop (r * 240) memory)
 
 -- "the rows where frame and panel differ lie in the span marked for copying"
 pub record Moment (h : Host) (s : Since) : Type 0 where
-  pub differing : (r : ℕ) → (rowIn r (h .frame) ≡ rowIn r (h .memory) → ⊥) → inSpan r (h .controller .marks .dirty) ≡ true
-  pub span : Marked (h .controller .marks .dirty) s
+  pub differing : (r : ℕ) → (rowIn r (h .frame) ≡ rowIn r (h .memory) → ⊥) → inSpan r (h .panel .controller .marks .dirty) ≡ true
+  pub span : Marked (h .panel .controller .marks .dirty) s
 
--- "both frames equal both panel memories, and registers, trace, warnings and counts agree": the controllers are equal whole.
+-- "both frames equal both panel memories, and registers, trace, warnings and counts agree": the panels are equal whole.
 pub record Agree (a b : Host) : Type 0 where
   pub frame-a : a .frame ≡ a .memory
   pub frame-b : b .frame ≡ b .memory
   pub memory : a .memory ≡ b .memory
-  pub controller : a .controller ≡ b .controller
+  pub panel : a .panel ≡ b .panel
 
 -- "At every moment": after the calls `made`, whichever are left.
-abbrev pub EveryMoment : Bool → List Call → Type 0
-EveryMoment on calls = (made left : List Call) → calls ≡ made ++ left → Moment (run (fresh on) made) (since on made)
+abbrev pub EveryMoment : PanelConfig → List Call → Type 0
+EveryMoment cfg calls = (made left : List Call) → calls ≡ made ++ left → Moment (run (fresh cfg) made) (since cfg made)
 
 -- What demand 3 promises of two hosts, "and then a last publish at each". That publish is no call of theirs: that it is not refused is
 -- promised too.
-pub record Demand3 (on : Bool) (us vs : List Call) : Type 0 where
-  pub last-a : refusal (run (fresh on) us) publish ≡ 0
-  pub last-b : refusal (run (fresh on) vs) publish ≡ 0
-  pub agree : Agree (step (run (fresh on) us) publish) (step (run (fresh on) vs) publish)
-  pub moments-a : EveryMoment on us
-  pub moments-b : EveryMoment on vs
+pub record Demand3 (cfg : PanelConfig) (us vs : List Call) : Type 0 where
+  pub last-a : refusal (run (fresh cfg) us) publish ≡ 0
+  pub last-b : refusal (run (fresh cfg) vs) publish ≡ 0
+  pub agree : Agree (step (run (fresh cfg) us) publish) (step (run (fresh cfg) vs) publish)
+  pub moments-a : EveryMoment cfg us
+  pub moments-b : EveryMoment cfg vs
 
 -- "Two hosts each have a fresh panel, equally set": either may cut.
 abbrev pub TwoHosts : Type 0
 TwoHosts =
-    (on : Bool) (agreed us vs : List Call) → Makes agreed us → Makes agreed vs → Accepted (fresh on) us → Accepted (fresh on) vs →
-    Demand3 on us vs
+    (cfg : PanelConfig) (agreed us vs : List Call) → Makes agreed us → Makes agreed vs → Accepted (fresh cfg) us → Accepted (fresh cfg) vs →
+    Demand3 cfg us vs
 
 -- "One cuts": the agreed calls are those of the first host, without what is free.
 abbrev pub OneCuts : Type 0
 OneCuts =
-    (on : Bool) (us vs : List Call) → Makes (owed us) vs → Accepted (fresh on) us → Accepted (fresh on) vs → Demand3 on us vs
+    (cfg : PanelConfig) (us vs : List Call) → Makes (owed us) vs → Accepted (fresh cfg) us → Accepted (fresh cfg) vs → Demand3 cfg us vs

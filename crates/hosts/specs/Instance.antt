@@ -82,4 +82,4 @@ isRows f l (Rows first last) = eqb first f && eqb last l
 -- What a host leaves to its last publish: row 9, stored to since the publish before, and not yet in the frame.
 abbrev pub leftOver : Host → Bool
 leftOver h =
-    isRows 9 9 (h .controller .marks .dirty) && (eqb (getD (h .memory) 2160 0) 0x1234 && eqb (getD (h .frame) 2160 0) 0)
+    isRows 9 9 (h .panel .controller .marks .dirty) && (eqb (getD (h .memory) 2160 0) 0x1234 && eqb (getD (h .frame) 2160 0) 0)

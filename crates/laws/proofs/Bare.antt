@@ -7,13 +7,13 @@ use lib.ListN.{length}
 use Rattle.st7789.specs.Refusals.{transferRefusal, bareRefusal}
 use Rattle.st7789.specs.Entries.{moved, transferred, bareTransferred}
 use Rattle.status.specs.Numbers.{unlessRefused}
-use Rattle.st7789.specs.declared.Controller.{Controller}
+use Rattle.st7789.specs.declared.St7789p3.{St7789p3}
 use Rattle.st7789.proofs.Accepted.{bare}
 
-pub same-refusal : (s : Controller) (n : ℕ) → transferRefusal s 76800 n ≡ bareRefusal s n
+pub same-refusal : (s : St7789p3) (n : ℕ) → transferRefusal s 76800 n ≡ bareRefusal s n
 same-refusal s n = bare s n
 
 pub same-state :
-    (t : ℕ) (dc : Bool) (bytes : List ℕ) (cs : Bool) (s : Controller) → transferred t dc bytes cs 76800 s ≡ bareTransferred t dc bytes cs s
+    (t : ℕ) (dc : Bool) (bytes : List ℕ) (cs : Bool) (s : St7789p3) → transferred t dc bytes cs 76800 s ≡ bareTransferred t dc bytes cs s
 unfolding transferred bareTransferred
 same-state t dc bytes cs s = ap (λ n. unlessRefused n (moved t dc bytes cs s) s) (bare s (length bytes))

@@ -3,10 +3,10 @@ use mathlib.Core.Path.{_≡_, refl}
 use mathlib.Core.Bool.{true}
 use Rattle.lists.specs.Params.{differ}
 use Rattle.chip.specs.Begin.{freshChip}
-use Rattle.st7789.specs.Refusals.{badState, countHigh, transferRefusal}
-use Rattle.st7789.specs.Entries.{freshController}
+use Rattle.st7789.specs.Refusals.{badState, transferRefusal}
+use Rattle.st7789.specs.Entries.{freshController, emptyLists}
 use Rattle.laws.specs.Cases.{cases, allGiven}
 
 pub all-given : allGiven cases ≡ true
-unfolding cases differ freshChip badState countHigh transferRefusal freshController
+unfolding cases differ freshChip badState transferRefusal freshController emptyLists
 all-given = refl

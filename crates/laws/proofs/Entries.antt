@@ -1,10 +1,9 @@
--- A test that no entry of a list passes: what that says of an entry, and which changes keep it.
-use Prim.Native.Nat.{ℕ, zero, suc, _<_}
+-- A test that no entry of a list passes: which changes keep that.
+use Prim.Native.Nat.{ℕ, zero, suc}
 use mathlib.Core.Path.{_≡_, refl}
 use mathlib.Core.Bool.{Bool, false}
 use mathlib.Core.List.{List, [], _∷_, _++_}
-use native.Mathlib.Nat.{not-suc-le-zero, le-of-suc-le-suc}
-use lib.ListN.{length, getD, set}
+use lib.ListN.{set}
 use Rattle.lists.proofs.Bools.{neither}
 use Rattle.lists.specs.Entries.{some}
 
@@ -17,8 +16,3 @@ module _ {A : Type 0} (test : A → Bool) where
   none-set [] i x e f = refl
   none-set (y ∷ l) zero x e f = let n = neither (test y) (some test l) e in rw f (n .1)
   none-set (y ∷ l) (suc i) x e f = let n = neither (test y) (some test l) e in rw (n .0) (none-set l i x (n .1) f)
-
-  pub none-at : (l : List A) (i : ℕ) (d : A) → some test l ≡ false → i < length l → test (getD l i d) ≡ false
-  none-at [] i d e h = absurd (not-suc-le-zero h)
-  none-at (y ∷ l) zero d e h = neither (test y) (some test l) e .0
-  none-at (y ∷ l) (suc i) d e h = none-at l i d (neither (test y) (some test l) e .1) (le-of-suc-le-suc h)

@@ -1,42 +1,62 @@
 -- What the lists mean: the used part after a command, and after data for it. `Same` is an equivalence.
 use Prim.Native.Nat.{ℕ, _+_, _≤_, _<_}
-use mathlib.Core.Path.{_≡_, refl, sym, _∙_}
-use mathlib.Core.List.{[], _∷_, _++_, map}
+use mathlib.Core.Path.{_≡_, refl, sym, ap, ap₂, _∙_}
+use mathlib.Core.Bool.{Bool, true, false}
+use mathlib.Core.List.{List, [], _∷_, _++_, map}
+use lib.Dec.{ltb}
 use lib.ListN.{length, take, set, getD}
 use lib.Seq.{take-set-lt}
 use native.Mathlib.Omega.{arith}
-use Rattle.lists.specs.Fixed.{used}
-use Rattle.lists.specs.declared.TraceRecord.{TraceRecord}
+use Rattle.lists.specs.Fixed.{places, used}
 use Rattle.lists.specs.declared.Current.the-variants.{At}
 use Rattle.lists.proofs.Fixed.{used-all}
 use Rattle.timing.specs.Lint.{brokenBy, rulesOf}
+use Rattle.chip.specs.declared.InForce.{InForce}
+use Rattle.chip.specs.declared.InForce.the-variants.{Code}
 use Rattle.st7789.specs.Parts.{traceOf, warningsOf}
-use Rattle.st7789.specs.Command.{warning, linted, begunRecord, traced}
-use Rattle.st7789.specs.Data.{noRecord, onCurrent, withRecords}
-use Rattle.st7789.specs.declared.Controller.{Controller}
+use Rattle.st7789.specs.Command.{warning, linted, begunRecord, begun}
+use Rattle.st7789.specs.Data.{noRecord, onCurrent, ran, taken, recordData, dataIn}
+use Rattle.st7789.specs.declared.St7789p3.{St7789p3}
 use Rattle.laws.specs.Same.{Same}
+use Rattle.laws.proofs.Stays.{warned-by, traced-by, dataBy}
 
-module _ (s : Controller) where
+module _ (s : St7789p3) where
   -- Warnings: those of the broken rules behind the old ones, and no more than 128.
   pub warnings-mean :
-      (c t : ℕ) → s .logs .warned ≤ 128 → length (s .warnings) ≡ 128 →
-      used (warningsOf (linted c t s)) ≡
-      take 128 (used (warningsOf s) ++ map (warning c t) (rulesOf (brokenBy (s .chip .times) (s .chip .registers .colmod) c t)))
-  warnings-mean c t few long = used-all 128 (warningsOf s) _ few (omega arith)
+      (c t : ℕ) → s .controller .logs .warned ≤ places → length (s .warnings) ≡ places →
+      used (warningsOf (begun c t s)) ≡
+      take places
+      (used (warningsOf s) ++ map (warning c t) (rulesOf (brokenBy (s .controller .chip .times) (s .controller .chip .registers .colmod) c t)))
+  unfolding begun
+  warnings-mean c t few long =
+      ap (λ n. take n (linted c t s .places)) (warned-by c t s (ltb (s .controller .logs .traced) places))
+      ∙ used-all places (warningsOf s) _ few (omega arith)
 
   -- Trace: the new record behind the old ones, and no more than 128.
   pub trace-means :
-      (c t : ℕ) → s .logs .traced ≤ 128 → length (s .records) ≡ 128 →
-      used (traceOf (traced c t s)) ≡ take 128 (used (traceOf s) ++ (begunRecord c t ∷ []))
-  trace-means c t few long = used-all 128 (traceOf s) (begunRecord c t ∷ []) few (omega arith)
+      (c t : ℕ) → s .controller .logs .traced ≤ places → length (s .records) ≡ places →
+      used (traceOf (begun c t s)) ≡ take places (used (traceOf s) ++ (begunRecord c t ∷ []))
+  unfolding begun
+  trace-means c t few long =
+      ap (λ n. take n (begun c t s .records)) (traced-by c t s (ltb (s .controller .logs .traced) places))
+      ∙ used-all places (traceOf s) (begunRecord c t ∷ []) few (omega arith)
 
   -- Data changes the current record and no other.
   pub current-means :
-      (f : TraceRecord → TraceRecord) (i : ℕ) → i < s .logs .traced →
-      used (traceOf (withRecords (onCurrent f (At i) (s .records)) s)) ≡ set (used (traceOf s)) i (f (getD (s .records) i noRecord))
-  current-means f i h = take-set-lt (s .logs .traced) (s .records) i (f (getD (s .records) i noRecord)) h
+      (bytes : List ℕ) (i : ℕ) → s .controller .logs .current ≡ At i → i < s .controller .logs .traced →
+      used (traceOf (dataIn bytes s)) ≡ set (used (traceOf s)) i (recordData bytes (s .controller) (getD (s .records) i noRecord))
+  unfolding dataIn ran taken
+  current-means bytes i e h =
+      let f = recordData bytes (s .controller) in
+      ap₂ (λ n k. take n (onCurrent f k (s .records))) (go (s .controller .chip .decoder .«in_pixels») (s .controller .chip .decoder .cmd)) e
+      ∙ take-set-lt (s .controller .logs .traced) (s .records) i (f (getD (s .records) i noRecord)) h
+    where
+      go : (b : Bool) (f : InForce) → dataBy b f bytes s .controller .logs .traced ≡ s .controller .logs .traced
+      go true f = refl
+      go false InForce.Nothing = refl
+      go false (Code c) = refl
 
-pub same-refl : (s : Controller) → Same s s
+pub same-refl : (s : St7789p3) → Same s s
 same-refl s =
     record {
       cfg = refl;
@@ -57,7 +77,7 @@ same-refl s =
       warnings = refl;
     }
 
-pub same-sym : {s r : Controller} → Same s r → Same r s
+pub same-sym : {s r : St7789p3} → Same s r → Same r s
 same-sym h =
     record {
       cfg = sym (h .cfg);
@@ -78,7 +98,7 @@ same-sym h =
       warnings = sym (h .warnings);
     }
 
-pub same-trans : {s r q : Controller} → Same s r → Same r q → Same s q
+pub same-trans : {s r q : St7789p3} → Same s r → Same r q → Same s q
 same-trans h k =
     record {
       cfg = h .cfg ∙ k .cfg;

@@ -6,20 +6,23 @@ use mathlib.Core.List.{List, [], _∷_}
 use lib.ListN.{set, replicate}
 use lib.Dec.{eqb}
 use Rattle.pixels.specs.declared.Carry.the-variants.{Empty}
+use Rattle.pixels.specs.declared.Span.{Span}
 use Rattle.pixels.specs.declared.Span.the-variants.{Rows}
 use Rattle.lists.specs.Params.{noParams}
 use Rattle.lists.specs.declared.Params.{Params}
 use Rattle.lists.specs.declared.Current.{Current}
 use Rattle.lists.specs.declared.Current.the-variants.{Nothing, At}
+use Rattle.board.specs.Board.{switchedTo}
 use Rattle.chip.specs.declared.InForce.{InForce}
-use Rattle.st7789.specs.Parts.{withChip, withCounts, withDirty, withStored, withTrace, withWarnings}
-use Rattle.st7789.specs.Entries.{freshController}
+use Rattle.st7789.specs.Parts.{withController, withChip, withCounts, withDirty, withLogs}
+use Rattle.st7789.specs.Entries.{freshPanel}
 use Rattle.st7789.specs.Refusals.{transferRefusal}
 use Rattle.st7789.specs.declared.Controller.{Controller}
+use Rattle.st7789.specs.declared.St7789p3.{St7789p3}
 
 -- A case of the table.
 pub record Case : Type 0 where
-  pub state : Controller
+  pub state : St7789p3
   pub cells : ℕ
   pub bytes : ℕ
   pub number : ℕ
@@ -30,20 +33,27 @@ allGiven [] = true
 allGiven (c ∷ cs) = eqb (transferRefusal (c .state) (c .cells) (c .bytes)) (c .number) && allGiven cs
 
 -- A fresh panel; each state below is one with a part set.
-abbrev pub fresh : Controller
-fresh = freshController true
+abbrev pub fresh : St7789p3
+fresh = freshPanel (switchedTo true)
+
+-- A panel with a change to its controller.
+abbrev pub with : (Controller → Controller) → St7789p3 → St7789p3
+with f s = withController (f (s .controller)) s
 
 -- Window and pointer.
-abbrev pub cornered : ℕ → ℕ → ℕ → ℕ → ℕ → ℕ → Controller
+abbrev pub cornered : ℕ → ℕ → ℕ → ℕ → ℕ → ℕ → St7789p3
 cornered xs xe ys ye x y =
+    with
+    (λ k.
     withChip
     (record {
-      registers = fresh .chip .registers;
+      registers = k .chip .registers;
       window = record { xs = xs; xe = xe; ys = ys; ye = ye };
       walk = record { pointer = record { x = x; y = y }; carry = Empty };
-      decoder = fresh .chip .decoder;
-      times = fresh .chip .times;
+      decoder = k .chip .decoder;
+      times = k .chip .times;
     })
+    k)
     fresh
 
 -- A parameter list of n bytes, the first of which is this.
@@ -51,39 +61,55 @@ abbrev pub list : ℕ → ℕ → Params
 list n byte = record { bytes = set (replicate 14 0) 0 byte; count = n }
 
 -- The parameters in force.
-abbrev pub inForce : Params → Controller → Controller
+abbrev pub inForce : Params → St7789p3 → St7789p3
 inForce p s =
+    with
+    (λ k.
     withChip
     (record {
-      registers = s .chip .registers;
-      window = s .chip .window;
-      walk = s .chip .walk;
+      registers = k .chip .registers;
+      window = k .chip .window;
+      walk = k .chip .walk;
       decoder = record { cmd = InForce.Nothing; params = p; applied = false; «in_pixels» = false };
-      times = s .chip .times;
+      times = k .chip .times;
     })
+    k)
     s
 
 -- The last of the twelve places.
-abbrev pub stored : Bool → Params → Controller
-stored present p = withStored (set (fresh .stored) 11 (record { present = present; params = p })) fresh
+abbrev pub stored : Bool → Params → St7789p3
+stored present p =
+    record {
+      controller = fresh .controller;
+      stored = set (fresh .stored) 11 (record { present = present; params = p });
+      records = fresh .records;
+      warnings = fresh .warnings;
+    }
 
 -- `used` records, of which the first has these parameters and pixel bytes, and a current one.
-abbrev pub traced : ℕ → Params → ℕ → Current → Controller → Controller
+abbrev pub traced : ℕ → Params → ℕ → Current → St7789p3 → St7789p3
 traced used p pixels current s =
-    withTrace
-    (record { count = used; places = set (s .records) 0 (record { at = 0; «pixel_bytes» = pixels; params = p; cmd = 0x00 }) })
-    current s
+    record {
+      controller = withLogs (record { traced = used; warned = s .controller .logs .warned; current = current }) (s .controller);
+      stored = s .stored;
+      records = set (s .records) 0 (record { at = 0; «pixel_bytes» = pixels; params = p; cmd = 0x00 });
+      warnings = s .warnings;
+    }
 
 -- How many warnings are used.
-abbrev pub warned : ℕ → Controller
-warned n = withWarnings (record { count = n; places = fresh .warnings }) fresh
+abbrev pub warned : ℕ → St7789p3
+warned n = with (λ k. withLogs (record { traced = k .logs .traced; warned = n; current = k .logs .current }) k) fresh
 
 -- The four counts.
-abbrev pub counted : ℕ → ℕ → ℕ → ℕ → Controller
-counted a b c d = withCounts (record { commands = a; «ramwr_count» = b; «pixels_written» = c; «dropped_params» = d }) fresh
+abbrev pub counted : ℕ → ℕ → ℕ → ℕ → St7789p3
+counted a b c d = with (withCounts (record { commands = a; «ramwr_count» = b; «pixels_written» = c; «dropped_params» = d })) fresh
+
+-- The dirty span.
+abbrev pub spanned : Span → St7789p3
+spanned d = with (withDirty d) fresh
 
 -- A transfer of no bytes over the right memory.
-abbrev pub given : ℕ → Controller → Case
+abbrev pub given : ℕ → St7789p3 → Case
 given n s = record { state = s; cells = 76800; bytes = 0; number = n }
 
 -- The table.
@@ -113,10 +139,10 @@ cases =
     ∷ given 0 (warned 128)
     ∷ given 1 (warned 129)
     -- "the dirty span has first above last, or last above 319"
-    ∷ given 0 (withDirty (Rows 319 319) fresh)
-    ∷ given 1 (withDirty (Rows 319 318) fresh)
-    ∷ given 0 (withDirty (Rows 0 319) fresh)
-    ∷ given 1 (withDirty (Rows 0 320) fresh)
+    ∷ given 0 (spanned (Rows 319 319))
+    ∷ given 1 (spanned (Rows 319 318))
+    ∷ given 0 (spanned (Rows 0 319))
+    ∷ given 1 (spanned (Rows 0 320))
     -- "a current trace record isn't the last used one, or its parameters differ from those in force"
     ∷ given 0 (traced 1 noParams 0 (At 0) fresh)
     ∷ given 1 (traced 2 noParams 0 (At 0) fresh)

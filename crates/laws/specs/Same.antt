@@ -9,7 +9,7 @@ use Rattle.lists.specs.Params.{listed}
 use Rattle.lists.specs.declared.Stored.{Stored}
 use Rattle.lists.specs.declared.TraceRecord.{TraceRecord}
 use Rattle.st7789.specs.Parts.{traceOf, warningsOf}
-use Rattle.st7789.specs.declared.Controller.{Controller}
+use Rattle.st7789.specs.declared.St7789p3.{St7789p3}
 
 -- A stored command's list, if it has one.
 abbrev pub seen : Bool → Stored → Option (List ℕ)
@@ -32,20 +32,20 @@ abbrev pub entry : TraceRecord → Entry
 entry r = record { cmd = r .cmd; at = r .at; pixels = r .«pixel_bytes»; params = listed (r .params) }
 
 -- "Two states are the same when their fields and the used part of each list are."
-pub record Same (s r : Controller) : Type 0 where
-  pub cfg : s .cfg ≡ r .cfg
-  pub power : s .power ≡ r .power
-  pub registers : s .chip .registers ≡ r .chip .registers
-  pub window : s .chip .window ≡ r .chip .window
-  pub walk : s .chip .walk ≡ r .chip .walk
-  pub cmd : s .chip .decoder .cmd ≡ r .chip .decoder .cmd
-  pub params : listed (s .chip .decoder .params) ≡ listed (r .chip .decoder .params)
-  pub applied : s .chip .decoder .applied ≡ r .chip .decoder .applied
-  pub run : s .chip .decoder .«in_pixels» ≡ r .chip .decoder .«in_pixels»
-  pub times : s .chip .times ≡ r .chip .times
-  pub counts : s .counts ≡ r .counts
-  pub dirty : s .marks .dirty ≡ r .marks .dirty
-  pub current : s .logs .current ≡ r .logs .current
+pub record Same (s r : St7789p3) : Type 0 where
+  pub cfg : s .controller .cfg ≡ r .controller .cfg
+  pub power : s .controller .power ≡ r .controller .power
+  pub registers : s .controller .chip .registers ≡ r .controller .chip .registers
+  pub window : s .controller .chip .window ≡ r .controller .chip .window
+  pub walk : s .controller .chip .walk ≡ r .controller .chip .walk
+  pub cmd : s .controller .chip .decoder .cmd ≡ r .controller .chip .decoder .cmd
+  pub params : listed (s .controller .chip .decoder .params) ≡ listed (r .controller .chip .decoder .params)
+  pub applied : s .controller .chip .decoder .applied ≡ r .controller .chip .decoder .applied
+  pub run : s .controller .chip .decoder .«in_pixels» ≡ r .controller .chip .decoder .«in_pixels»
+  pub times : s .controller .chip .times ≡ r .controller .chip .times
+  pub counts : s .controller .counts ≡ r .controller .counts
+  pub dirty : s .controller .marks .dirty ≡ r .controller .marks .dirty
+  pub current : s .controller .logs .current ≡ r .controller .logs .current
   pub stored : map seenStored (s .stored) ≡ map seenStored (r .stored)
   pub trace : map entry (used (traceOf s)) ≡ map entry (used (traceOf r))
   pub warnings : used (warningsOf s) ≡ used (warningsOf r)

@@ -10,6 +10,10 @@ pub record Fixed (A : Type 0) : Type 0 where
   pub count : ℕ
   pub places : List A
 
+-- "The state holds 128 trace records and 128 warnings."
+abbrev pub places : ℕ
+places = 128
+
 -- "the used part of each list"
 abbrev pub used : {A : Type 0} → Fixed A → List A
 used f = take (f .count) (f .places)

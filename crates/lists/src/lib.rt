@@ -1,6 +1,7 @@
 // Fixed lists and their entries: a command's parameters, the stored commands, the trace and the warnings.
 ghost use mathlib.Core.Path.{_≡_};
-ghost use Prim.Native.Nat.{_-_, min};
+ghost use Prim.Native.Nat.{_+_, _-_, min};
+ghost use lib.Dec.{ltb, eqb};
 ghost use Rattle.lists.specs.Entries.{some, storedLong, placeOf};
 ghost use Rattle.lists.specs.Params.{noParams, filled, excess, differ};
 
@@ -39,6 +40,9 @@ pub enum Current {
     At(u8),
 }
 
+// How many trace records the state holds, and how many warnings.
+pub const PLACES: usize = 128;
+
 fn wide(n: u8) -> usize
     ensures { λ r. ⌜ r ≡ n ⌝ }
 {
@@ -51,7 +55,28 @@ fn lesser(a: usize, b: usize) -> usize
     if a < b { a } else { b }
 }
 
-// How many places are free.
+// The place that is free next in a list of which an owner may have `most` entries; `most` where none is.
+pub fn free(used: u8, most: usize) -> usize
+    ensures answer { λ r. ⌜ r ≡ min used most ⌝ }
+{
+    lesser(wide(used), most)
+}
+
+// Whether entry i is the latest one.
+pub fn is_latest(i: u8, used: u8) -> bool
+    ensures answer { λ r. ⌜ r ≡ eqb (i + 1) used ⌝ }
+{
+    wide(i) + 1 == wide(used)
+}
+
+// Whether more entries are used than an owner may have.
+pub fn over(used: u8, most: usize) -> bool
+    ensures answer { λ r. ⌜ r ≡ ltb most used ⌝ }
+{
+    wide(used) > most
+}
+
+// How many parameters there is room for.
 fn room(count: u8) -> usize
     ensures { λ r. ⌜ r ≡ 14 - count ⌝ }
 {

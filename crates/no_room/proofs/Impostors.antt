@@ -24,7 +24,7 @@ begunPanel = after fresh first
 abbrev cell : ℕ → List ℕ → ℕ
 cell i memory = getD memory i 0
 
-first-accepted : transferRefusal (fresh .controller) (length (fresh .memory)) 1 ≡ 0
+first-accepted : transferRefusal (fresh .state) (length (fresh .memory)) 1 ≡ 0
 unfolding model
 first-accepted = refl
 
@@ -36,15 +36,15 @@ second-stores : cell 0 (after begunPanel second .memory) ≡ 0xF800
 unfolding model
 second-stores = refl
 
-none-counted : fresh .controller .counts .commands ≡ 0
+none-counted : fresh .state .controller .counts .commands ≡ 0
 unfolding model
 none-counted = refl
 
-one-counted : begunPanel .controller .counts .commands ≡ 1
+one-counted : begunPanel .state .controller .counts .commands ≡ 1
 unfolding model
 one-counted = refl
 
-all-counted : after begunPanel second .controller .counts ≡ record { commands = 1; «ramwr_count» = 1; «pixels_written» = 2; «dropped_params» = 0 }
+all-counted : after begunPanel second .state .controller .counts ≡ record { commands = 1; «ramwr_count» = 1; «pixels_written» = 2; «dropped_params» = 0 }
 unfolding model
 all-counted = refl
 
@@ -60,9 +60,9 @@ module _ (f : Transfer) (keeps : KeepsTransfer f) where
       (ap (cell 0) (keeps begunPanel second .1 .1) ∙ second-stores) refl (fixed fresh first ∙ sym (fixed begunPanel second))
 
   -- "a model that changes nothing": neither the state nor memory stays.
-  pub state-changes : ((p : Panel) (c : Call) → f p c .answer .controller ≡ p .controller) → ⊥
+  pub state-changes : ((p : Panel) (c : Call) → f p c .answer .panel ≡ p .state) → ⊥
   state-changes stays =
-      apart (λ s. s .counts .commands) 1 0 (ap (λ s. s .counts .commands) (keeps fresh first .1 .0) ∙ one-counted) none-counted refl
+      apart (λ s. s .controller .counts .commands) 1 0 (ap (λ s. s .controller .counts .commands) (keeps fresh first .1 .0) ∙ one-counted) none-counted refl
       (stays fresh first)
 
   pub memory-changes : ((p : Panel) (c : Call) → f p c .memory ≡ p .memory) → ⊥
@@ -81,9 +81,9 @@ module _ (f : Transfer) (keeps : KeepsTransfer f) where
 
   -- "Invented counts": after P1 the counts are these and no others. `commands-counted` has the commands of every accepted call.
   pub not-invented :
-      leftBy f (leftBy f fresh first) second .controller .counts ≡
+      leftBy f (leftBy f fresh first) second .state .controller .counts ≡
       record { commands = 1; «ramwr_count» = 1; «pixels_written» = 2; «dropped_params» = 0 }
-  not-invented = ap (λ p. p .controller .counts) both-left ∙ all-counted
+  not-invented = ap (λ p. p .state .controller .counts) both-left ∙ all-counted
 
 -- What is published: P1's pixels, then one pixel more.
 abbrev blank : List ℕ
@@ -97,13 +97,13 @@ third = segment (0x00 ∷ 0x1F ∷ [])
 
 -- The frame after publishing as promised, and the panel.
 abbrev refusal : Panel → List ℕ → ℕ
-refusal p frame = publishRefusal (p .controller) (length (p .memory)) (length frame)
+refusal p frame = publishRefusal (p .state) (length (p .memory)) (length frame)
 
 abbrev frameAfter : Panel → List ℕ → List ℕ
-frameAfter p frame = publishedFrame (refusal p frame) (p .controller) (p .memory) frame
+frameAfter p frame = publishedFrame (refusal p frame) (p .state) (p .memory) frame
 
 abbrev panelAfter : Panel → List ℕ → Panel
-panelAfter p frame = record { controller = published (refusal p frame) (p .controller); memory = p .memory }
+panelAfter p frame = record { state = published (refusal p frame) (p .state); memory = p .memory }
 
 publish-accepted : refusal stored blank ≡ 0
 unfolding model
@@ -127,7 +127,7 @@ third-shows = refl
 
 module _ (f : Publish) (keeps : KeepsPublish f) where
   abbrev panelLeft : Panel → List ℕ → Panel
-  panelLeft p frame = record { controller = f p frame .answer .controller; memory = p .memory }
+  panelLeft p frame = record { state = f p frame .answer .panel; memory = p .memory }
 
   shown : (p : Panel) (frame : List ℕ) → f p frame .frame ≡ frameAfter p frame
   shown p frame = keeps p frame .1 .1 .1 .1
@@ -153,7 +153,7 @@ module _ (f : Publish) (keeps : KeepsPublish f) where
       apart (cell 2) 0x001F 0
       (ap (cell 2)
       (shown (after (panelLeft stored blank) third) (f stored blank .frame)
-      ∙ ap (λ s. frameAfter (after (record { controller = s; memory = stored .memory }) third) (f stored blank .frame)) (keeps stored blank .1 .0)
+      ∙ ap (λ s. frameAfter (after (record { state = s; memory = stored .memory }) third) (f stored blank .frame)) (keeps stored blank .1 .0)
       ∙ ap (frameAfter (after (panelAfter stored blank) third)) (shown stored blank))
       ∙ third-shows)
       (ap (cell 2) (shown stored blank) ∙ third-not-yet) refl (once stored blank third)

@@ -2,34 +2,47 @@
 use Prim.Native.Nat.{ℕ}
 use mathlib.Core.Path.{_≡_, refl}
 use mathlib.Core.Bool.{Bool, true, false, cond, not}
-use lib.Dec.{ltb, eqb}
+use mathlib.Core.List.{List, [], _∷_}
+use borrow.Author.Tests.{eqb-true, not-false}
+use lib.Dec.{eqb}
 use lib.ListN.{length}
 use Rattle.status.specs.Numbers.{number}
-use Rattle.st7789.specs.Refusals.{badState, countHigh, transferRefusal}
+use Rattle.status.specs.Tests.{Test, first, transferRow, publishRow}
+use Rattle.lists.specs.Entries.{some}
+use Rattle.lists.proofs.Bools.{neither}
+use Rattle.st7789.specs.Refusals.{badState, countsOf, transferRefusal}
 use Rattle.publishing.specs.Publish.{publishRefusal, published, publishedSpan, publishedFlags, publishedFrame}
 use Rattle.no_room.specs.Examples.{after}
 use Rattle.no_room.specs.Kept.{Transfer, KeepsTransfer, leftBy, Publish, KeepsPublish}
 use Rattle.no_room.proofs.Only.{statusOf}
 
 pub as-promised : (f : Transfer) → KeepsTransfer f → leftBy f ≡ after
-as-promised f keeps i p c = record { controller = keeps p c .1 .0 i; memory = keeps p c .1 .1 i }
+as-promised f keeps i p c = record { state = keeps p c .1 .0 i; memory = keeps p c .1 .1 i }
 
--- Something keeps each: what the definitions compute, with the status read off its number.
-transfer-numbered :
-    (a b c d : Bool) → let n : ℕ = cond a 1 (cond b 2 (cond c 4 (cond d 5 0))) in number (statusOf n) ≡ n
-transfer-numbered true b c d = refl
-transfer-numbered false true c d = refl
-transfer-numbered false false true d = refl
-transfer-numbered false false false true = refl
-transfer-numbered false false false false = refl
+-- Whether a test's number is none of 01's.
+abbrev nameless : Test → Bool
+nameless x = not (eqb (number (statusOf (x .number))) (x .number))
+
+-- Something keeps each: what the definitions compute, with the status read off its number. A row of tests gives one of 01's numbers.
+numbered : (l : List Test) → some nameless l ≡ false → number (statusOf (first l)) ≡ first l
+numbered [] e = refl
+numbered (x ∷ l) e =
+    let t = neither (nameless x) (some nameless l) e in
+    by-test (x .refuses) (eqb-true (number (statusOf (x .number))) (x .number) (not-false _ (t .0))) (numbered l (t .1))
+  where
+    by-test :
+        (b : Bool) → number (statusOf (x .number)) ≡ x .number → number (statusOf (first l)) ≡ first l →
+        number (statusOf (cond b (x .number) (first l))) ≡ cond b (x .number) (first l)
+    by-test true e rest = e
+    by-test false e rest = rest
 
 pub promisedTransfer : Transfer
 promisedTransfer p c =
     record {
       answer =
           record {
-            controller = after p c .controller;
-            status = statusOf (transferRefusal (p .controller) (length (p .memory)) (length (c .bytes)));
+            panel = after p c .state;
+            status = statusOf (transferRefusal (p .state) (length (p .memory)) (length (c .bytes)));
           };
       memory = after p c .memory;
     }
@@ -37,29 +50,23 @@ promisedTransfer p c =
 pub transfer-kept : KeepsTransfer promisedTransfer
 unfolding promisedTransfer transferRefusal
 transfer-kept p c =
-    (transfer-numbered (badState (p .controller)) (not (eqb (length (p .memory)) 76800)) (ltb 65536 (length (c .bytes))) (countHigh (p .controller)), (refl, refl))
-
-publish-numbered : (a b c : Bool) → let n : ℕ = cond a 1 (cond b 2 (cond c 3 0)) in number (statusOf n) ≡ n
-publish-numbered true b c = refl
-publish-numbered false true c = refl
-publish-numbered false false true = refl
-publish-numbered false false false = refl
+    (numbered (transferRow (badState (p .state)) (length (p .memory)) (length (c .bytes)) (countsOf (p .state))) refl, (refl, refl))
 
 pub promisedPublish : Publish
 promisedPublish p frame =
-    let n : ℕ = publishRefusal (p .controller) (length (p .memory)) (length frame) in
+    let n : ℕ = publishRefusal (p .state) (length (p .memory)) (length frame) in
     record {
       answer =
           record {
-            controller = published n (p .controller);
-            span = publishedSpan n (p .controller);
-            flags = publishedFlags n (p .controller);
+            panel = published n (p .state);
+            span = publishedSpan n (p .state);
+            flags = publishedFlags n (p .state);
             status = statusOf n;
           };
-      frame = publishedFrame n (p .controller) (p .memory) frame;
+      frame = publishedFrame n (p .state) (p .memory) frame;
     }
 
 pub publish-kept : KeepsPublish promisedPublish
 unfolding promisedPublish publishRefusal
 publish-kept p frame =
-    (publish-numbered (badState (p .controller)) (not (eqb (length (p .memory)) 76800)) (not (eqb (length frame) 76800)), (refl, (refl, (refl, refl))))
+    (numbered (publishRow (badState (p .state)) (length (p .memory)) (length frame)) refl, (refl, (refl, (refl, refl))))

@@ -6,13 +6,13 @@ use Rattle.boot.specs.Boot.{fits, comparedFrom}
 use Rattle.timing.specs.Lint.{brokenBy, timesAfter}
 use Rattle.chip.specs.Begin.{freshChip, chipBegun, chipReleased}
 use Rattle.chip.specs.Apply.{appliedIfDue, chipTaken}
-use Rattle.st7789.specs.Command.{begun, released}
-use Rattle.st7789.specs.Data.{ran, taken}
-use Rattle.st7789.specs.Refusals.{badState, countHigh, transferRefusal}
-use Rattle.st7789.specs.Entries.{freshController, moved, transferred, transferMemory}
+use Rattle.st7789.specs.Command.{begun, controllerReleased}
+use Rattle.st7789.specs.Data.{ran, taken, dataIn}
+use Rattle.st7789.specs.Refusals.{badState, transferRefusal}
+use Rattle.st7789.specs.Entries.{freshController, emptyLists, moved, transferred, transferMemory}
 use Rattle.views.specs.Light.{dimmed}
 use Rattle.publishing.specs.Publish.{publishRefusal, published, publishedFrame}
 
 unfoldable pub model : Unit {0}
-unfolding mapOf outcome next stores walkAfter pixelsCounted filled differ fits comparedFrom brokenBy timesAfter freshChip chipBegun chipReleased appliedIfDue chipTaken begun released ran taken badState countHigh transferRefusal freshController moved transferred transferMemory dimmed publishRefusal published publishedFrame
+unfolding mapOf outcome next stores walkAfter pixelsCounted filled differ fits comparedFrom brokenBy timesAfter freshChip chipBegun chipReleased appliedIfDue chipTaken begun controllerReleased ran taken dataIn badState transferRefusal freshController emptyLists moved transferred transferMemory dimmed publishRefusal published publishedFrame
 model = tt

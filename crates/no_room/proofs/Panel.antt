@@ -5,18 +5,18 @@ use mathlib.Core.List.{List}
 use denote.Ref.{now}
 use Rattle.status.specs.Numbers.{number}
 use Rattle.st7789.specs.declared.Answer.{Answer}
-use Rattle.st7789.specs.declared.Controller.{Controller}
-use Rattle.st7789.proofs.Controller.fresh as fresh
+use Rattle.st7789.specs.declared.St7789p3.{St7789p3}
+use Rattle.st7789.proofs.Controller.fresh as controller-fresh
+use Rattle.st7789.proofs.St7789p3.fresh as fresh
 use Rattle.st7789.proofs.Controller.set_powered as set-powered
 use Rattle.st7789.proofs.Controller.set_invon_shows_ram as set-invon-shows-ram
 use Rattle.st7789.proofs.Controller.set_brightness as set-brightness
 use Rattle.st7789.proofs.Controller.mark_all_dirty as mark-all-dirty
-use Rattle.st7789.proofs.Controller.take_warnings as take-warnings
-use Rattle.st7789.proofs.Controller.transfer as transfer
-use Rattle.st7789.proofs.Controller.transfer_without_memory as transfer-without-memory
-use Rattle.st7789.proofs.Controller.reset as reset
-use Rattle.st7789.proofs.Controller.new as new
-use Rattle.st7789.proofs.Controller.bad_state as bad-state
+use Rattle.st7789.proofs.St7789p3.take_warnings as take-warnings
+use Rattle.st7789.proofs.St7789p3.transfer as transfer
+use Rattle.st7789.proofs.St7789p3.reset as reset
+use Rattle.st7789.proofs.St7789p3.new as new
+use Rattle.st7789.proofs.St7789p3.bad_state as bad-state
 use Rattle.views.proofs.dim as dim
 use Rattle.views.proofs.pixel as pixel
 use Rattle.views.proofs.frame as frame
@@ -25,10 +25,13 @@ use Rattle.publishing.proofs.publish as publish
 use Rattle.no_room.specs.Only.{Only, OnlyAs}
 use Rattle.no_room.proofs.Only.{same, told}
 
--- An answer is a controller and a status.
+-- An answer is a panel and a status.
 answered :
-    (x y : Answer) {n : ℕ} {s : Controller} → number (x .status) ≡ n → number (y .status) ≡ n → x .controller ≡ s → y .controller ≡ s → x ≡ y
-answered x y p q e f i = record { controller = same e f i; status = told (x .status) (y .status) p q i }
+    (x y : Answer) {n : ℕ} {s : St7789p3} → number (x .status) ≡ n → number (y .status) ≡ n → x .panel ≡ s → y .panel ≡ s → x ≡ y
+answered x y p q e f i = record { panel = same e f i; status = told (x .status) (y .status) p q i }
+
+pub controller-fresh-one : Only controller-fresh.ended controller-fresh.Reads.Learnt
+controller-fresh-one κs args x y u v p q = (same p q, refl)
 
 pub fresh-one : Only fresh.ended fresh.Reads.Learnt
 fresh-one κs args x y u v p q = (same p q, refl)
@@ -51,11 +54,8 @@ take-warnings-one κs args x y u v p q = (same p q, refl)
 pub transfer-one : Only transfer.ended transfer.Reads.Learnt
 transfer-one κs args x y u v p q = (
   answered x y (p .0) (q .0) (p .1 .0) (q .1 .0),
-  λ i. (tt, (tt, (tt, (tt, (tt, (same (p .1 .1) (q .1 .1) i, tt)))))),
+  λ i. (tt, (tt, (tt, (tt, (tt, (tt, (same (p .1 .1) (q .1 .1) i, tt))))))),
 )
-
-pub transfer-without-memory-one : Only transfer-without-memory.ended transfer-without-memory.Reads.Learnt
-transfer-without-memory-one κs args x y u v p q = (answered x y (p .0) (q .0) (p .1) (q .1), refl)
 
 pub reset-one : Only reset.ended reset.Reads.Learnt
 reset-one κs args x y u v p q = (
@@ -88,7 +88,7 @@ row-one κs args x y u v p q = (same p q, refl)
 pub publish-one : Only publish.ended publish.Reads.Learnt
 publish-one κs args x y u v p q = (
   λ i. record {
-    controller = same (p .1 .0) (q .1 .0) i;
+    panel = same (p .1 .0) (q .1 .0) i;
     span = same (p .1 .1 .0) (q .1 .1 .0) i;
     flags = same (p .1 .1 .1 .0) (q .1 .1 .1 .0) i;
     status = told (x .status) (y .status) (p .0) (q .0) i;

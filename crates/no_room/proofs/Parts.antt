@@ -3,7 +3,7 @@ use mathlib.Core.Path.{refl}
 use Rattle.digests.proofs.digest as digest
 use Rattle.status.proofs.number as number
 use Rattle.status.proofs.accepted as accepted
-use Rattle.status.proofs.counts_high as counts-high
+use Rattle.status.proofs.some_high as some-high
 use Rattle.status.proofs.memory_status as memory-status
 use Rattle.status.proofs.transfer_status as transfer-status
 use Rattle.geometry.proofs.col_max as col-max
@@ -25,12 +25,18 @@ use Rattle.lists.proofs.Params.empty as empty
 use Rattle.lists.proofs.Params.append as append
 use Rattle.lists.proofs.Params.differs as differs
 use Rattle.lists.proofs.Params.excess as excess
+use Rattle.lists.proofs.free as free
+use Rattle.lists.proofs.is_latest as is-latest
+use Rattle.lists.proofs.over as over
 use Rattle.lists.proofs.stored_long as stored-long
 use Rattle.lists.proofs.stored_place as stored-place
 use Rattle.timing.proofs.lint as lint
+use Rattle.timing.proofs.Broken.count as count
+use Rattle.timing.proofs.Broken.rule as rule
 use Rattle.timing.proofs.Times.fresh as times-fresh
 use Rattle.timing.proofs.Times.after as after
 use Rattle.board.proofs.PanelConfig.new as config-new
+use Rattle.board.proofs.PanelConfig.set_invon_shows_ram as config-set
 use Rattle.board.proofs.Power.fresh as power-fresh
 use Rattle.board.proofs.Power.set_powered as power-set-powered
 use Rattle.board.proofs.Power.set_brightness as power-set-brightness
@@ -51,8 +57,8 @@ number-one κs args x y u v p q = (same p q, refl)
 pub accepted-one : Only accepted.ended accepted.Reads.Learnt
 accepted-one κs args x y u v p q = (same p q, refl)
 
-pub counts-high-one : Only counts-high.ended counts-high.Reads.Learnt
-counts-high-one κs args x y u v p q = (same p q, refl)
+pub some-high-one : Only some-high.ended some-high.Reads.Learnt
+some-high-one κs args x y u v p q = (same p q, refl)
 
 pub memory-status-one : Only memory-status.ended memory-status.Reads.Learnt
 memory-status-one κs args x y u v p q = (told x y p q, refl)
@@ -117,6 +123,15 @@ differs-one κs args x y u v p q = (same p q, refl)
 pub excess-one : Only excess.ended excess.Reads.Learnt
 excess-one κs args x y u v p q = (same p q, refl)
 
+pub free-one : Only free.ended free.Reads.Learnt
+free-one κs args x y u v p q = (same p q, refl)
+
+pub is-latest-one : Only is-latest.ended is-latest.Reads.Learnt
+is-latest-one κs args x y u v p q = (same p q, refl)
+
+pub over-one : Only over.ended over.Reads.Learnt
+over-one κs args x y u v p q = (same p q, refl)
+
 pub stored-long-one : Only stored-long.ended stored-long.Reads.Learnt
 stored-long-one κs args x y u v p q = (same p q, refl)
 
@@ -126,6 +141,12 @@ stored-place-one κs args x y u v p q = (same p q, refl)
 pub lint-one : Only lint.ended lint.Reads.Learnt
 lint-one κs args x y u v p q = (same p q, refl)
 
+pub count-one : Only count.ended count.Reads.Learnt
+count-one κs args x y u v p q = (same p q, refl)
+
+pub rule-one : Only rule.ended rule.Reads.Learnt
+rule-one κs args x y u v p q = (same p q, refl)
+
 pub times-fresh-one : Only times-fresh.ended times-fresh.Reads.Learnt
 times-fresh-one κs args x y u v p q = (same p q, refl)
 
@@ -134,6 +155,9 @@ after-one κs args x y u v p q = (same p q, refl)
 
 pub config-new-one : Only config-new.ended config-new.Reads.Learnt
 config-new-one κs args x y u v p q = (same p q, refl)
+
+pub config-set-one : Only config-set.ended config-set.Reads.Learnt
+config-set-one κs args x y u v p q = (same p q, refl)
 
 pub power-fresh-one : Only power-fresh.ended power-fresh.Reads.Learnt
 power-fresh-one κs args x y u v p q = (same p q, refl)

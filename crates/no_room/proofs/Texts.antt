@@ -98,7 +98,7 @@ pub replay-one : Only replay.ended replay.Reads.Learnt
 replay-one κs args x y u v p q = (
   λ i. record {
     offset = same (p .1 .0) (q .1 .0) i;
-    controller = same (p .1 .1) (q .1 .1) i;
+    panel = same (p .1 .1) (q .1 .1) i;
     status = told (x .status) (y .status) (p .0) (q .0) i;
   },
   refl,

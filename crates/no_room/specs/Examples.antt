@@ -18,8 +18,9 @@ use Rattle.sequence.specs.Sequence.{bootSequence}
 use Rattle.boot.specs.Boot.{compared, stepOf}
 use Rattle.sequence.specs.declared.BootStep.{BootStep}
 use Rattle.st7789.specs.Parts.{traceOf}
-use Rattle.st7789.specs.Entries.{freshController, transferred, transferMemory}
-use Rattle.st7789.specs.declared.Controller.{Controller}
+use Rattle.board.specs.Board.{switchedTo}
+use Rattle.st7789.specs.Entries.{freshPanel, transferred, transferMemory}
+use Rattle.st7789.specs.declared.St7789p3.{St7789p3}
 use Rattle.views.specs.Light.{dimmed}
 
 -- A transfer.
@@ -29,9 +30,9 @@ pub record Call : Type 0 where
   pub bytes : List ℕ
   pub release : Bool
 
--- A controller and its memory.
+-- A panel's state and its memory.
 pub record Panel : Type 0 where
-  pub controller : Controller
+  pub state : St7789p3
   pub memory : List ℕ
 
 -- A row of the table.
@@ -41,14 +42,14 @@ pub record Row : Type 0 where
 
 -- "fresh panel unless said"
 abbrev pub fresh : Panel
-fresh = record { controller = freshController true; memory = replicate 76800 0 }
+fresh = record { state = freshPanel (switchedTo true); memory = replicate 76800 0 }
 
 -- The panel after a call, as `transfer` promises it.
 abbrev pub after : Panel → Call → Panel
 after p c =
     record {
-      controller = transferred (c .time) (c .dc) (c .bytes) (c .release) (length (p .memory)) (p .controller);
-      memory = transferMemory (c .dc) (c .bytes) (p .memory) (p .controller);
+      state = transferred (c .time) (c .dc) (c .bytes) (c .release) (length (p .memory)) (p .state);
+      memory = transferMemory (c .dc) (c .bytes) (p .memory) (p .state);
     }
 
 -- The rows all pass, for a way to make a call.
@@ -86,11 +87,11 @@ nothingStored p = sameNumbers (p .memory) (fresh .memory)
 
 -- The pointer stands here.
 abbrev pub pointer : ℕ → ℕ → Panel → Bool
-pointer x y p = eqb (p .controller .chip .walk .pointer .x) x && eqb (p .controller .chip .walk .pointer .y) y
+pointer x y p = eqb (p .state .controller .chip .walk .pointer .x) x && eqb (p .state .controller .chip .walk .pointer .y) y
 
 -- So many pixels are counted.
 abbrev pub pixels : ℕ → Panel → Bool
-pixels n p = eqb (p .controller .counts .«pixels_written») n
+pixels n p = eqb (p .state .controller .counts .«pixels_written») n
 
 -- A span is these rows.
 abbrev pub isRows : ℕ → ℕ → Span → Bool
@@ -99,7 +100,7 @@ isRows first last (Rows a b) = eqb a first && eqb b last
 
 -- The rows to publish are these.
 abbrev pub span : ℕ → ℕ → Panel → Bool
-span first last p = isRows first last (p .controller .marks .dirty)
+span first last p = isRows first last (p .state .controller .marks .dirty)
 
 -- A carry is this byte.
 abbrev pub isHigh : ℕ → Carry → Bool
@@ -108,15 +109,15 @@ isHigh b (High a) = eqb a b
 
 -- This byte waits.
 abbrev pub carry : ℕ → Panel → Bool
-carry b p = isHigh b (p .controller .chip .walk .carry)
+carry b p = isHigh b (p .state .controller .chip .walk .carry)
 
 -- The window has these columns.
 abbrev pub columns : ℕ → ℕ → Panel → Bool
-columns xs xe p = eqb (p .controller .chip .window .xs) xs && eqb (p .controller .chip .window .xe) xe
+columns xs xe p = eqb (p .state .controller .chip .window .xs) xs && eqb (p .state .controller .chip .window .xe) xe
 
 -- A stored command's place among the twelve.
 abbrev pub place : ℕ → Panel → Stored
-place i p = getD (p .controller .stored) i (record { present = false; params = record { bytes = []; count = 0 } })
+place i p = getD (p .state .stored) i (record { present = false; params = record { bytes = []; count = 0 } })
 
 -- This list is stored there.
 abbrev pub stored : ℕ → List ℕ → Panel → Bool
@@ -124,15 +125,15 @@ stored i bytes p = place i p .present && sameNumbers (listed (place i p .params)
 
 -- So many parameters are dropped.
 abbrev pub dropped : ℕ → Panel → Bool
-dropped n p = eqb (p .controller .counts .«dropped_params») n
+dropped n p = eqb (p .state .controller .counts .«dropped_params») n
 
 -- The rules of the warnings kept, in order.
 abbrev pub warns : List ℕ → Panel → Bool
-warns rules p = sameNumbers (map (λ w. w .rule) (take (p .controller .logs .warned) (p .controller .warnings))) rules
+warns rules p = sameNumbers (map (λ w. w .rule) (take (p .state .controller .logs .warned) (p .state .warnings))) rules
 
 -- The times of the warnings kept, in order.
 abbrev pub warnsAt : List ℕ → Panel → Bool
-warnsAt times p = sameNumbers (map (λ w. w .at) (take (p .controller .logs .warned) (p .controller .warnings))) times
+warnsAt times p = sameNumbers (map (λ w. w .at) (take (p .state .controller .logs .warned) (p .state .warnings))) times
 
 -- No record is current.
 abbrev pub isNone : Current → Bool
@@ -224,14 +225,14 @@ rows =
     ∷ record {
       calls = sentFrom 0 bootSequence;
       passes = λ p.
-          warns (2 ∷ []) p && warnsAt (ms 20 ∷ []) p && eqb (stepOf (compared (used (traceOf (p .controller))) .check)) 0
+          warns (2 ∷ []) p && warnsAt (ms 20 ∷ []) p && eqb (stepOf (compared (used (traceOf (p .state))) .check)) 0
           && stored 8 (0xA4 ∷ 0xA1 ∷ []) p;
     }
     -- The 129th command works and isn't traced
     ∷ record {
       calls = commandsAt 0 (replicate 128 0x00) ∷ command 0x21 ∷ [];
       passes = λ p.
-          p .controller .chip .registers .inverted && eqb (p .controller .counts .commands) 129 && eqb (p .controller .logs .traced) 128
-          && isNone (p .controller .logs .current);
+          p .state .controller .chip .registers .inverted && eqb (p .state .controller .counts .commands) 129 && eqb (p .state .controller .logs .traced) 128
+          && isNone (p .state .controller .logs .current);
     }
     ∷ []

@@ -5,7 +5,8 @@ use denote.Ref.{RefT}
 use denote.Triple.Entry.{Args}
 use denote.Triple.Clauses.{atExit}
 use Rattle.st7789.specs.declared.Answer.{Answer}
-use Rattle.st7789.proofs.Controller.transfer as transfer
+use Rattle.st7789.specs.declared.PanelMemory.the-variants.{Lent}
+use Rattle.st7789.proofs.St7789p3.transfer as transfer
 use Rattle.publishing.specs.declared.Published.{Published}
 use Rattle.publishing.proofs.publish as publish
 use Rattle.no_room.specs.Examples.{Call, Panel, command, segment}
@@ -23,20 +24,20 @@ pub record Done : Type 0 where
 abbrev pub Transfer : Type 0
 Transfer = Panel → Call → Done
 
--- A panel and a call as the arguments of `transfer`.
+-- A panel and a call as the arguments of `transfer`, panel memory lent.
 abbrev transferArgs : Panel → Call → Args transfer.signature ([], ([], tt))
-transferArgs p c = (p .controller, (c .time, (c .dc, (lent (c .bytes), (c .release, (lent (p .memory), tt))))))
+transferArgs p c = (p .state, (c .time, (c .dc, (lent (c .bytes), (c .release, (Lent, (lent (p .memory), tt)))))))
 
 -- It keeps the promise of `transfer`, which is the contract.
 abbrev pub KeepsTransfer : Transfer → Type 0
 KeepsTransfer f =
     (p : Panel) (c : Call) →
     transfer.Reads.Learnt ([], ([], tt)) (transferArgs p c) (f p c .answer)
-    (atExit transfer.ended ([], ([], tt)) (transferArgs p c) (tt, (tt, (tt, (tt, (tt, (f p c .memory, tt)))))))
+    (atExit transfer.ended ([], ([], tt)) (transferArgs p c) (tt, (tt, (tt, (tt, (tt, (tt, (f p c .memory, tt))))))))
 
 -- The panel that it leaves.
 abbrev pub leftBy : Transfer → Panel → Call → Panel
-leftBy f p c = record { controller = f p c .answer .controller; memory = f p c .memory }
+leftBy f p c = record { state = f p c .answer .panel; memory = f p c .memory }
 
 -- What publishing leaves: the answer, and the frame.
 pub record Shown : Type 0 where
@@ -49,7 +50,7 @@ Publish = Panel → List ℕ → Shown
 
 -- A panel and a frame as the arguments of `publish`.
 abbrev publishArgs : Panel → List ℕ → Args publish.signature ([], ([], tt))
-publishArgs p frame = (p .controller, (lent (p .memory), (lent frame, tt)))
+publishArgs p frame = (p .state, (lent (p .memory), (lent frame, tt)))
 
 -- It keeps the promise of `publish`, which is the contract.
 abbrev pub KeepsPublish : Publish → Type 0

@@ -8,8 +8,12 @@ use crate::names;
 use crate::names::Name;
 use crate::parts;
 use crate::print;
+use board::PanelConfig;
+use lists::PLACES;
 use lists::Warning;
 use st7789::Controller;
+use st7789::PanelMemory;
+use st7789::St7789p3;
 
 // How much of the memory, the frame and the view buffer is lent.
 pub struct Lent {
@@ -77,63 +81,73 @@ pub fn lent_to(name: Name, lent: Lent) -> Lent {
     }
 }
 
-fn send(c: Controller, line: &[u8], bytes: &[u8], memory: &mut [u16]) -> Controller {
+fn send(panel: St7789p3, line: &[u8], bytes: &[u8], memory: &mut [u16]) -> St7789p3 {
     let time = args::number(line, 1);
-    let answer = c.transfer(
+    let answer = panel.transfer(
         time,
         args::flag(line, 2),
         bytes,
         args::flag(line, 3),
+        PanelMemory::Lent,
         memory,
     );
     let status = answer.status;
     print::refusal(status);
-    answer.controller
+    answer.panel
 }
 
-fn send_bare(c: Controller, line: &[u8], bytes: &[u8]) -> Controller {
+fn send_bare(panel: St7789p3, line: &[u8], bytes: &[u8]) -> St7789p3 {
+    let mut none = [0u16; 1];
     let time = args::number(line, 1);
-    let answer = c.transfer_without_memory(time, args::flag(line, 2), bytes, args::flag(line, 3));
+    let answer = panel.transfer(
+        time,
+        args::flag(line, 2),
+        bytes,
+        args::flag(line, 3),
+        PanelMemory::Without,
+        &mut none[0..0],
+    );
     let status = answer.status;
     print::refusal(status);
-    answer.controller
+    answer.panel
 }
 
-fn reset(c: Controller, line: &[u8], memory: &mut [u16]) -> Controller {
-    let answer = c.reset(args::domain(line), memory);
+fn reset(panel: St7789p3, line: &[u8], memory: &mut [u16]) -> St7789p3 {
+    let answer = panel.reset(args::domain(line), memory);
     let status = answer.status;
     print::refusal(status);
-    answer.controller
+    answer.panel
 }
 
-fn fresh(line: &[u8], memory: &mut [u16]) -> Controller {
-    let answer = Controller::new(args::flag(line, 1), memory);
+fn fresh(line: &[u8], memory: &mut [u16]) -> St7789p3 {
+    let cfg = PanelConfig::new(args::flag(line, 1));
+    let answer = St7789p3::new(cfg, memory);
     let status = answer.status;
     print::refusal(status);
-    answer.controller
+    answer.panel
 }
 
-fn publish(c: Controller, memory: &[u16], frame: &mut [u16]) -> Controller {
-    let answer = publishing::publish(c, memory, frame);
+fn publish(panel: St7789p3, memory: &[u16], frame: &mut [u16]) -> St7789p3 {
+    let answer = publishing::publish(panel, memory, frame);
     let status = answer.status;
     let span = answer.span;
     let flags = answer.flags;
     looks::print_published(status, span, flags);
-    answer.controller
+    answer.panel
 }
 
-fn print_taken(warnings: [Warning; 128], count: u8) {
+fn print_taken(warnings: [Warning; PLACES], count: u8) {
     let mut out = [0u8; 5000];
     let used = report::put_warnings(&mut out, 0, warnings, count);
     print::line(b"taken", &[count as u64]);
     print::show(1, &out, used);
 }
 
-fn take_warnings(c: Controller) -> Controller {
-    let taken = c.take_warnings();
+fn take_warnings(panel: St7789p3) -> St7789p3 {
+    let taken = panel.take_warnings();
     let warnings = taken.warnings;
     print_taken(warnings, taken.count);
-    taken.controller
+    taken.panel
 }
 
 fn brightness(c: Controller, line: &[u8]) -> Controller {
@@ -161,61 +175,62 @@ fn set_numbers(line: &[u8], memory: &mut [u16], frame: &mut [u16]) {
 }
 
 // set FIELD ..
-fn set(mut c: Controller, line: &[u8]) -> Controller {
+fn set(mut panel: St7789p3, line: &[u8]) -> St7789p3 {
     let field = names::field_of(line);
-    let logs = c.logs;
-    let marks = c.marks;
+    let old = panel.controller;
+    let logs = old.logs;
     let traced = entries::slot(logs.traced);
     let warned = entries::slot(logs.warned);
     let place = entries::stored_slot(line);
-    let record = entries::record(field, line, logs.traced, c.records[traced]);
-    let warning = entries::warning(field, line, logs.warned, c.warnings[warned]);
-    let stored = entries::stored(field, line, c.stored[place]);
-    let chip = parts::chip(c.chip, field, line);
-    let counts = parts::counts(c.counts, field, line);
-    let marked = parts::marks(marks, field, line);
-    let after = parts::logs(logs, field, line);
-    c.chip = chip;
-    c.counts = counts;
-    c.marks = marked;
-    c.logs = after;
-    c.stored[place] = stored;
-    c.records[traced] = record;
-    c.warnings[warned] = warning;
-    c
+    let record = entries::record(field, line, logs.traced, panel.records[traced]);
+    let warning = entries::warning(field, line, logs.warned, panel.warnings[warned]);
+    let stored = entries::stored(field, line, panel.stored[place]);
+    let controller = parts::controller(old, field, line);
+    panel.controller = controller;
+    panel.stored[place] = stored;
+    panel.records[traced] = record;
+    panel.warnings[warned] = warning;
+    panel
 }
 
-// What a call leaves of the panel, where it needs nothing that is lent.
+// What a call leaves of the controller, where it needs nothing that is lent.
 fn control(c: Controller, name: Name, line: &[u8]) -> Controller {
     match name {
         Name::Power => c.set_powered(args::flag(line, 1)),
         Name::Switch => c.set_invon_shows_ram(args::flag(line, 1)),
         Name::Brightness => brightness(c, line),
         Name::MarkAll => c.mark_all_dirty(),
-        Name::TakeWarnings => take_warnings(c),
         _ => c,
     }
 }
 
+// What such a call leaves of the panel.
+fn controlled(mut panel: St7789p3, name: Name, line: &[u8]) -> St7789p3 {
+    let controller = control(panel.controller, name, line);
+    panel.controller = controller;
+    panel
+}
+
 // What a call leaves of the panel and of the lent numbers.
 pub fn run(
-    c: Controller,
+    panel: St7789p3,
     name: Name,
     line: &[u8],
     bytes: &[u8],
     memory: &mut [u16],
     frame: &mut [u16],
-) -> Controller {
+) -> St7789p3 {
     match name {
-        Name::Transfer => send(c, line, bytes, memory),
-        Name::Bare => send_bare(c, line, bytes),
-        Name::Reset => reset(c, line, memory),
+        Name::Transfer => send(panel, line, bytes, memory),
+        Name::Bare => send_bare(panel, line, bytes),
+        Name::Reset => reset(panel, line, memory),
         Name::Fresh => fresh(line, memory),
-        Name::Publish => publish(c, memory, frame),
+        Name::Publish => publish(panel, memory, frame),
+        Name::TakeWarnings => take_warnings(panel),
         Name::Set => {
             set_numbers(line, memory, frame);
-            set(c, line)
+            set(panel, line)
         }
-        _ => control(c, name, line),
+        _ => controlled(panel, name, line),
     }
 }

@@ -10,6 +10,7 @@ use lists::Current;
 use lists::Stored;
 use pixels::Carry;
 use st7789::Controller;
+use st7789::St7789p3;
 use status::PANEL_PIXELS;
 use timing::Moment;
 use views::FrameView;
@@ -39,9 +40,9 @@ fn print_digests(c: Controller, memory: &[u16], frame: &[u16], buffer: &mut [u16
     print_views(c, &memory[..cells], &mut buffer[..seen]);
 }
 
-fn print_report(controller: Controller) {
+fn print_report(panel: St7789p3) {
     let mut out = [0u8; 18000];
-    let used = report::write_report(controller, &mut out);
+    let used = report::write_report(panel, &mut out);
     print::show(1, &out, used);
 }
 
@@ -155,11 +156,12 @@ fn print_rest(chip: Chip, current: Current, stored: [Stored; 12]) {
     print_all_stored(stored);
 }
 
-pub fn print(c: Controller, memory: &[u16], frame: &[u16], buffer: &mut [u16]) {
+pub fn print(panel: St7789p3, memory: &[u16], frame: &[u16], buffer: &mut [u16]) {
+    let c = panel.controller;
     let logs = c.logs;
     let current = logs.current;
-    let stored = c.stored;
-    print_report(c);
+    let stored = panel.stored;
+    print_report(panel);
     print_ctl(c.power, c.cfg);
     print_rest(c.chip, current, stored);
     print_digests(c, memory, frame, buffer);

@@ -1,8 +1,10 @@
 // `set` on the lists: the place of an entry, and what stands there after the line. A count may pass its list; what fits is kept.
 ghost use Prim.Native.Nat.{_<_};
+ghost use Rattle.lists.specs.Fixed.{places};
 use crate::args;
 use crate::checks;
 use crate::names::Field;
+use lists::PLACES;
 use lists::Params;
 use lists::Stored;
 use lists::TraceRecord;
@@ -10,9 +12,10 @@ use lists::Warning;
 
 // The place of entry n, the first one where the list has none.
 pub fn slot(n: u8) -> usize
-    ensures { λ r. ⌜ r < 128 ⌝ }
+    ensures { λ r. ⌜ r < places ⌝ }
 {
-    if n < 128 { n as usize } else { 0 }
+    let at = lists::free(n, PLACES);
+    if at < PLACES { at } else { 0 }
 }
 
 // The place of a stored command, the first one for any other.
@@ -46,7 +49,7 @@ pub fn stored(field: Field, line: &[u8], old: Stored) -> Stored {
 
 // Whether a line adds an entry after the first n.
 fn adds(n: u8, line: &[u8]) -> bool {
-    (n < 128) & !checks::none(line)
+    (lists::free(n, PLACES) < PLACES) & !checks::none(line)
 }
 
 pub fn record(field: Field, line: &[u8], n: u8, old: TraceRecord) -> TraceRecord {

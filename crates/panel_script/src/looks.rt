@@ -6,10 +6,12 @@ use crate::picture;
 use crate::print;
 use crate::words;
 use boot::BootCheck;
+use lists::PLACES;
 use lists::TraceRecord;
 use pixels::Span;
 use publishing::Flags;
 use st7789::Controller;
+use st7789::St7789p3;
 use status::Status;
 use views::Memory;
 
@@ -135,7 +137,7 @@ fn print_found(step: u8, record: TraceRecord) {
 }
 
 // boot
-fn show_boot(records: [TraceRecord; 128], traced: u8) {
+fn show_boot(records: [TraceRecord; PLACES], traced: u8) {
     let compared = boot::trace_mismatch(records, traced);
     let check = compared.check;
     let found = compared.found;
@@ -151,7 +153,7 @@ fn show_boot(records: [TraceRecord; 128], traced: u8) {
 }
 
 pub fn look<'a>(
-    c: Controller,
+    panel: St7789p3,
     name: Name,
     line: &[u8],
     memory: &'a [u16],
@@ -159,15 +161,15 @@ pub fn look<'a>(
     buffer: &mut [u16],
 ) {
     match name {
-        Name::View => show_view(c, line, memory, buffer),
-        Name::Pixels => show_pixels(c, line, memory, buffer),
-        Name::Pixel => show_pixel(c, line, memory),
+        Name::View => show_view(panel.controller, line, memory, buffer),
+        Name::Pixels => show_pixels(panel.controller, line, memory, buffer),
+        Name::Pixel => show_pixel(panel.controller, line, memory),
         Name::Row => show_row(line, memory, frame),
         Name::Boot => {
-            let records = c.records;
-            show_boot(records, c.logs.traced);
+            let records = panel.records;
+            show_boot(records, panel.controller.logs.traced);
         }
-        Name::Dump => dump::print(c, memory, frame, buffer),
+        Name::Dump => dump::print(panel, memory, frame, buffer),
         _ => {}
     }
 }

@@ -2,10 +2,11 @@
 ghost use mathlib.Core.Path.{_≡_};
 ghost use Prim.Native.Nat.{_≤_};
 ghost use lib.ListN.{length};
+use board::PanelConfig;
 use calls::Lent;
 use checks::Sense;
 use names::Name;
-use st7789::Controller;
+use st7789::St7789p3;
 use status::PANEL_PIXELS;
 
 mod args;
@@ -34,7 +35,7 @@ fn within(script: &[u8], end: usize) -> Sense {
 
 // What a call leaves of the panel, with as much of memory, frame and view as it is lent.
 fn call(
-    c: Controller,
+    panel: St7789p3,
     name: Name,
     line: &[u8],
     bytes: &[u8],
@@ -42,13 +43,13 @@ fn call(
     memory: &mut [u16],
     frame: &mut [u16],
     view: &mut [u16],
-) -> Controller {
+) -> St7789p3 {
     let own = calls::lent_to(name, lent);
     let cells = args::least(own.memory, memory.len());
     let framed = args::least(own.frame, frame.len());
     let seen = args::least(own.view, view.len());
     looks::look(
-        c,
+        panel,
         name,
         line,
         &memory[..cells],
@@ -56,7 +57,7 @@ fn call(
         &mut view[..seen],
     );
     calls::run(
-        c,
+        panel,
         name,
         line,
         bytes,
@@ -74,7 +75,8 @@ fn run(
     frame: &mut [u16],
     view: &mut [u16],
 ) {
-    let mut c = Controller::fresh(true);
+    let cfg = PanelConfig::new(true);
+    let mut panel = St7789p3::fresh(cfg);
     let mut lent = Lent {
         memory: PANEL_PIXELS,
         frame: PANEL_PIXELS,
@@ -87,7 +89,8 @@ fn run(
         let line = words::before(whole, b'#');
         let end = at + whole.len();
         let name = names::name_of(line);
-        let read = calls::read(name, line, c.logs.traced, c.logs.warned, bytes);
+        let logs = panel.controller.logs;
+        let read = calls::read(name, line, logs.traced, logs.warned, bytes);
         let sense = read.sense;
         let sense = checks::first(within(script, end), sense);
         number += 1;
@@ -96,8 +99,8 @@ fn run(
             return;
         }
         lent = calls::lend(lent, name, line);
-        c = call(
-            c,
+        panel = call(
+            panel,
             name,
             line,
             words::head(bytes, read.count),
@@ -108,7 +111,7 @@ fn run(
         );
         at = end + 1;
     }
-    dump::print(c, memory, frame, view);
+    dump::print(panel, memory, frame, view);
 }
 
 fn start(head: &[u8], script: &[u8]) {

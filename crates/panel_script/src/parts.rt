@@ -12,6 +12,7 @@ use lists::Current;
 use pixels::Carry;
 use pixels::Span;
 use pixels::Walk;
+use st7789::Controller;
 use st7789::Counts;
 use st7789::Logs;
 use st7789::Marks;
@@ -141,7 +142,7 @@ fn times(t: Times, field: Field, line: &[u8]) -> Times {
     }
 }
 
-pub fn chip(c: Chip, field: Field, line: &[u8]) -> Chip {
+fn chip(c: Chip, field: Field, line: &[u8]) -> Chip {
     let old_walk = c.walk;
     let old_times = c.times;
     let old_decoder = c.decoder;
@@ -159,7 +160,7 @@ pub fn chip(c: Chip, field: Field, line: &[u8]) -> Chip {
     }
 }
 
-pub fn counts(c: Counts, field: Field, line: &[u8]) -> Counts {
+fn counts(c: Counts, field: Field, line: &[u8]) -> Counts {
     let mut after = c;
     let n = args::number(line, 2);
     match field {
@@ -192,7 +193,7 @@ fn span(line: &[u8]) -> Span {
     Span::Rows(first, last)
 }
 
-pub fn marks(m: Marks, field: Field, line: &[u8]) -> Marks {
+fn marks(m: Marks, field: Field, line: &[u8]) -> Marks {
     match field {
         Field::Dirty => {
             let dirty = span(line);
@@ -217,7 +218,7 @@ fn used(n: u8, line: &[u8]) -> u8 {
     if n < 255 { n + 1 } else { n }
 }
 
-pub fn logs(l: Logs, field: Field, line: &[u8]) -> Logs {
+fn logs(l: Logs, field: Field, line: &[u8]) -> Logs {
     match field {
         Field::Current => {
             let current = current(line);
@@ -233,4 +234,18 @@ pub fn logs(l: Logs, field: Field, line: &[u8]) -> Logs {
         },
         _ => l,
     }
+}
+
+pub fn controller(mut c: Controller, field: Field, line: &[u8]) -> Controller {
+    let old_marks = c.marks;
+    let old_logs = c.logs;
+    let chip = chip(c.chip, field, line);
+    let counts = counts(c.counts, field, line);
+    let marks = marks(old_marks, field, line);
+    let logs = logs(old_logs, field, line);
+    c.chip = chip;
+    c.counts = counts;
+    c.marks = marks;
+    c.logs = logs;
+    c
 }

@@ -1,8 +1,10 @@
 // A worked example of publishing: a pixel stored in row 10, a publish, a pixel stored in row 300, a publish. After each step it
 // prints column 5 of both rows, in panel memory and in the frame.
+use board::PanelConfig;
 use libc::STDOUT_FILENO;
 use pixels::Span;
-use st7789::Controller;
+use st7789::PanelMemory;
+use st7789::St7789p3;
 use status::Status;
 use views::Memory;
 
@@ -15,11 +17,11 @@ fn print_status(status: Status) {
     }
 }
 
-fn send(controller: Controller, dc: bool, bytes: &[u8], memory: &mut [u16]) -> Controller {
-    let answer = controller.transfer(0, dc, bytes, false, memory);
+fn send(panel: St7789p3, dc: bool, bytes: &[u8], memory: &mut [u16]) -> St7789p3 {
+    let answer = panel.transfer(0, dc, bytes, false, PanelMemory::Lent, memory);
     let status = answer.status;
     print_status(status);
-    answer.controller
+    answer.panel
 }
 
 fn print_pixel(row: &[u16]) {
@@ -38,14 +40,14 @@ fn print_row<'a>(row: usize, memory: &'a [u16], frame: &'a [u16]) {
     io::write_all(STDOUT_FILENO, b"\n");
 }
 
-fn command(controller: Controller, code: &[u8], data: &[u8], memory: &mut [u16]) -> Controller {
-    let begun = send(controller, false, code, memory);
+fn command(panel: St7789p3, code: &[u8], data: &[u8], memory: &mut [u16]) -> St7789p3 {
+    let begun = send(panel, false, code, memory);
     send(begun, true, data, memory)
 }
 
 // CASET to column 5, RASET to the rows given, RAMWR with one pixel.
-fn store(controller: Controller, rows: &[u8], pixel: &[u8], memory: &mut [u16]) -> Controller {
-    let column = command(controller, b"\x2A", b"\x00\x05\x00\x05", memory);
+fn store(panel: St7789p3, rows: &[u8], pixel: &[u8], memory: &mut [u16]) -> St7789p3 {
+    let column = command(panel, b"\x2A", b"\x00\x05\x00\x05", memory);
     let row = command(column, b"\x2B", rows, memory);
     command(row, b"\x2C", pixel, memory)
 }
@@ -65,13 +67,13 @@ fn print_span(span: Span) {
     }
 }
 
-fn publish(controller: Controller, memory: &[u16], frame: &mut [u16]) -> Controller {
-    let answer = publishing::publish(controller, memory, frame);
+fn publish(panel: St7789p3, memory: &[u16], frame: &mut [u16]) -> St7789p3 {
+    let answer = publishing::publish(panel, memory, frame);
     let status = answer.status;
     print_status(status);
     let span = answer.span;
     print_span(span);
-    answer.controller
+    answer.panel
 }
 
 fn print_rows<'a>(memory: &'a [u16], frame: &'a [u16]) {
@@ -82,15 +84,11 @@ fn print_rows<'a>(memory: &'a [u16], frame: &'a [u16]) {
 fn main() {
     let mut memory = [0u16; 76800];
     let mut frame = [0u16; 76800];
-    let made = Controller::new(true, &mut memory);
+    let cfg = PanelConfig::new(true);
+    let made = St7789p3::new(cfg, &mut memory);
     let status = made.status;
     print_status(status);
-    let stored = store(
-        made.controller,
-        b"\x00\x0A\x00\x0A",
-        b"\xF8\x00",
-        &mut memory,
-    );
+    let stored = store(made.panel, b"\x00\x0A\x00\x0A", b"\xF8\x00", &mut memory);
     io::write_all(STDOUT_FILENO, b"stored f800 in row 10\n");
     print_rows(&memory, &frame);
     let published = publish(stored, &memory, &mut frame);

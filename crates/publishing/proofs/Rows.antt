@@ -1,4 +1,4 @@
--- What a publish does to each pixel of the frame, and to the controller.
+-- What a publish does to each pixel of the frame, and to the panel.
 use Prim.Native.Nat.{ℕ, _+_, _-_, _*_, _/_, _%_, _≤_, _<_}
 use mathlib.Core.Path.{_≡_, refl, sym, ap, _∙_}
 use mathlib.Core.Bool.{Bool, true, false, cond, _&&_}
@@ -10,12 +10,11 @@ use lib.ListN.{length, getD, take, drop, length-append, length-take, length-drop
 use lib.Seq.{ext-getD}
 use Rattle.pixels.specs.declared.Span.{Span}
 use Rattle.pixels.specs.declared.Span.the-variants.{Nothing, Rows}
-use Rattle.st7789.specs.Parts.{withDirty}
 use Rattle.pixels.specs.Spans.{spanBad}
-use Rattle.st7789.specs.declared.Controller.{Controller}
+use Rattle.st7789.specs.declared.St7789p3.{St7789p3}
 use Rattle.publishing.specs.Publish.{copied, spanCopied, inSpan, published}
 use Rattle.publishing.proofs.Copies.{upTo, before, between, after}
-use Rattle.publishing.proofs.Refusing.{span-rows}
+use Rattle.publishing.proofs.Refusing.{span-rows, spanned}
 
 module _ (memory frame : List ℕ) (m : length memory ≡ 76800) (f : length frame ≡ 76800) where
   copied-upTo : (first last : ℕ) → first ≤ last → copied first last memory frame ≡ upTo (first * 240) ((last + 1 - first) * 240) memory frame
@@ -82,11 +81,13 @@ module _ (memory frame : List ℕ) (m : length memory ≡ 76800) (f : length fra
     pub frame-is-memory : Alike → spanCopied span memory frame ≡ memory
     frame-is-memory same = ext-getD 0 (spanCopied span memory frame) memory (length-spanned span fine ∙ sym m) (λ i _. pixel-alike same i)
 
--- A publish changes nothing of the controller but the span.
-kept-or-emptied : (b : Bool) (s : Controller) → withDirty (s .marks .dirty) (cond b (withDirty Nothing s) s) ≡ s
+-- A publish changes nothing of the panel but the span.
+kept-or-emptied :
+    (b : Bool) (s : St7789p3) →
+    spanned (s .controller .marks .dirty) (cond b (spanned Nothing s) s) ≡ s
 kept-or-emptied true s = refl
 kept-or-emptied false s = refl
 
-pub span-only : (refusal : ℕ) (s : Controller) → withDirty (s .marks .dirty) (published refusal s) ≡ s
+pub span-only : (refusal : ℕ) (s : St7789p3) → spanned (s .controller .marks .dirty) (published refusal s) ≡ s
 unfolding published
 span-only refusal s = kept-or-emptied (eqb refusal 0) s

@@ -1,16 +1,18 @@
 -- Rules: 01, "Publish copies the span's rows to the frame, other rows stay, answers span and six flags (powered, sleeping, inverted,
 -- display on, switch, duty), and empties the span."
 use Prim.Native.Nat.{ℕ, _+_, _-_, _*_}
-use mathlib.Core.Bool.{Bool, false, cond, not, _&&_}
+use mathlib.Core.Bool.{Bool, false, _&&_}
 use mathlib.Core.List.{List, _++_}
 use lib.ListN.{take, drop}
-use lib.Dec.{eqb, leb}
+use lib.Dec.{leb}
 use Rattle.pixels.specs.declared.Span.{Span}
 use Rattle.pixels.specs.declared.Span.the-variants.{Nothing, Rows}
-use Rattle.st7789.specs.Parts.{withDirty}
+use Rattle.st7789.specs.Parts.{withController, withDirty}
 use Rattle.st7789.specs.Refusals.{badState}
 use Rattle.status.specs.Numbers.{unlessRefused}
+use Rattle.status.specs.Tests.{first, publishRow}
 use Rattle.st7789.specs.declared.Controller.{Controller}
+use Rattle.st7789.specs.declared.St7789p3.{St7789p3}
 use Rattle.publishing.specs.declared.Flags.{Flags}
 
 -- "copies the span's rows to the frame, other rows stay": first to last are memory's, above and below are the frame's own.
@@ -29,21 +31,20 @@ abbrev pub inSpan : ℕ → Span → Bool
 inSpan row Nothing = false
 inSpan row (Rows first last) = leb first row && leb row last
 
--- "Tests run in number order": BAD_STATE, which "is tested by transfer and publish only", BAD_MEMORY, BAD_FRAME.
-unfoldable pub publishRefusal : Controller → ℕ → ℕ → ℕ
-publishRefusal s cells room =
-    cond (badState s) 1 (cond (not (eqb cells 76800)) 2 (cond (not (eqb room 76800)) 3 0))
+-- The refusal of a publish.
+unfoldable pub publishRefusal : St7789p3 → ℕ → ℕ → ℕ
+publishRefusal s cells room = first (publishRow (badState s) cells room)
 
 -- "six flags (powered, sleeping, inverted, display on, switch, duty)"
 abbrev pub flagsOf : Controller → Flags
-flagsOf s =
+flagsOf k =
     record {
-      powered = s .power .powered;
-      sleeping = s .chip .registers .sleeping;
-      inverted = s .chip .registers .inverted;
-      «display_on» = s .chip .registers .«display_on»;
-      «invon_shows_ram» = s .cfg .«invon_shows_ram»;
-      duty = s .power .duty;
+      powered = k .power .powered;
+      sleeping = k .chip .registers .sleeping;
+      inverted = k .chip .registers .inverted;
+      «display_on» = k .chip .registers .«display_on»;
+      «invon_shows_ram» = k .cfg .«invon_shows_ram»;
+      duty = k .power .duty;
     }
 
 -- The flags of a refusal: "no value (0 where a number is due)".
@@ -52,17 +53,17 @@ noFlags =
     record { powered = false; sleeping = false; inverted = false; «display_on» = false; «invon_shows_ram» = false; duty = 0 }
 
 -- "answers span"; refused, "no value".
-unfoldable pub publishedSpan : ℕ → Controller → Span
-publishedSpan refusal s = unlessRefused refusal (s .marks .dirty) Nothing
+unfoldable pub publishedSpan : ℕ → St7789p3 → Span
+publishedSpan refusal s = unlessRefused refusal (s .controller .marks .dirty) Nothing
 
 -- "answers .. six flags"; refused, "no value".
-unfoldable pub publishedFlags : ℕ → Controller → Flags
-publishedFlags refusal s = unlessRefused refusal (flagsOf s) noFlags
+unfoldable pub publishedFlags : ℕ → St7789p3 → Flags
+publishedFlags refusal s = unlessRefused refusal (flagsOf (s .controller)) noFlags
 
 -- "empties the span"; refused, "A refusal gives back the state it got".
-unfoldable pub published : ℕ → Controller → Controller
-published refusal s = unlessRefused refusal (withDirty Nothing s) s
+unfoldable pub published : ℕ → St7789p3 → St7789p3
+published refusal s = unlessRefused refusal (withController (withDirty Nothing (s .controller)) s) s
 
 -- "Publish copies the span's rows to the frame"; refused, "every lent number as before".
-unfoldable pub publishedFrame : ℕ → Controller → List ℕ → List ℕ → List ℕ
-publishedFrame refusal s memory frame = unlessRefused refusal (spanCopied (s .marks .dirty) memory frame) frame
+unfoldable pub publishedFrame : ℕ → St7789p3 → List ℕ → List ℕ → List ℕ
+publishedFrame refusal s memory frame = unlessRefused refusal (spanCopied (s .controller .marks .dirty) memory frame) frame

@@ -6,14 +6,12 @@ ghost use mathlib.Core.Bool.{false, cond};
 ghost use Rattle.pixels.specs.declared.Span.the-variants.{Nothing, Rows};
 ghost use Rattle.pixels.specs.Spans.{spanBad};
 ghost use Rattle.status.specs.Numbers.{number};
-ghost use Rattle.views.specs.Views.{frameRefusal};
-ghost use Rattle.publishing.specs.Publish.{copied, spanCopied, publishRefusal, noFlags, publishedSpan, publishedFlags, published, publishedFrame};
-use board::PanelConfig;
-use board::Power;
-use chip::Registers;
+ghost use Rattle.status.specs.Tests.{first, publishRow};
+ghost use Rattle.publishing.specs.Publish.{copied, spanCopied, publishRefusal, flagsOf, noFlags, publishedSpan, publishedFlags, published, publishedFrame};
 use pixels::Span;
 use st7789::Controller;
 use st7789::Marks;
+use st7789::St7789p3;
 use status::Status;
 
 const PANEL_PIXELS: usize = 76800;
@@ -29,7 +27,7 @@ pub struct Flags {
 }
 
 pub struct Published {
-    pub controller: Controller,
+    pub panel: St7789p3,
     pub span: Span,
     pub flags: Flags,
     pub status: Status,
@@ -79,7 +77,7 @@ fn copy_span(span: Span, memory: &[u16], frame: &mut [u16])
 
 // The first refusal in 01's order, or Ok.
 fn publish_status(bad: bool, cells: usize, room: usize) -> Status
-    ensures { λ r. ⌜ number r ≡ cond bad 1 (frameRefusal cells room) ⌝ }
+    ensures { λ r. ⌜ number r ≡ first (publishRow bad cells room) ⌝ }
 {
     if bad {
         return Status::BadState;
@@ -104,16 +102,18 @@ fn span_if(on: bool, span: Span) -> Span
 }
 
 // The flags, or all of them 0.
-fn flags_if(on: bool, power: Power, registers: Registers, cfg: PanelConfig) -> Flags
-    ensures { λ r. ⌜ r ≡ cond on (record { powered = power .powered; sleeping = registers .sleeping; inverted = registers .inverted; «display_on» = registers .«display_on»; «invon_shows_ram» = cfg .«invon_shows_ram»; duty = power .duty }) noFlags ⌝ }
+fn flags_if(on: bool, controller: Controller) -> Flags
+    ensures { λ r. ⌜ r ≡ cond on (flagsOf controller) noFlags ⌝ }
 {
     if on {
+        let power = controller.power;
+        let registers = controller.chip.registers;
         return Flags {
             powered: power.powered,
             sleeping: registers.sleeping,
             inverted: registers.inverted,
             display_on: registers.display_on,
-            invon_shows_ram: cfg.invon_shows_ram,
+            invon_shows_ram: controller.cfg.invon_shows_ram,
             duty: power.duty,
         };
     }
@@ -128,28 +128,30 @@ fn flags_if(on: bool, power: Power, registers: Registers, cfg: PanelConfig) -> F
 }
 
 // Copies the rows of the span to the frame, answers span and flags, and empties the span. Memory is only read.
-// A refusal hands the controller back, with no span and no flag.
-pub fn publish(controller: Controller, memory: &[u16], frame: &mut [u16]) -> Published
-    ensures refusal { λ r. ⌜ number (r .status) ≡ publishRefusal controller (length (now (memory .entry))) (length (now (frame .entry))) ⌝ }
-    ensures answer { λ r. ⌜ r .controller ≡ published (publishRefusal controller (length (now (memory .entry))) (length (now (frame .entry)))) controller ⌝ }
-    ensures span { λ r. ⌜ r .span ≡ publishedSpan (publishRefusal controller (length (now (memory .entry))) (length (now (frame .entry)))) controller ⌝ }
-    ensures flags { λ r. ⌜ r .flags ≡ publishedFlags (publishRefusal controller (length (now (memory .entry))) (length (now (frame .entry)))) controller ⌝ }
-    ensures lent { λ r. ⌜ now (frame .exit) ≡ publishedFrame (publishRefusal controller (length (now (memory .entry))) (length (now (frame .entry)))) controller (now (memory .entry)) (now (frame .entry)) ⌝ }
+// A refusal hands the panel back, with no span and no flag.
+pub fn publish(panel: St7789p3, memory: &[u16], frame: &mut [u16]) -> Published
+    ensures refusal { λ r. ⌜ number (r .status) ≡ publishRefusal panel (length (now (memory .entry))) (length (now (frame .entry))) ⌝ }
+    ensures answer { λ r. ⌜ r .panel ≡ published (publishRefusal panel (length (now (memory .entry))) (length (now (frame .entry)))) panel ⌝ }
+    ensures span { λ r. ⌜ r .span ≡ publishedSpan (publishRefusal panel (length (now (memory .entry))) (length (now (frame .entry)))) panel ⌝ }
+    ensures flags { λ r. ⌜ r .flags ≡ publishedFlags (publishRefusal panel (length (now (memory .entry))) (length (now (frame .entry)))) panel ⌝ }
+    ensures lent { λ r. ⌜ now (frame .exit) ≡ publishedFrame (publishRefusal panel (length (now (memory .entry))) (length (now (frame .entry)))) panel (now (memory .entry)) (now (frame .entry)) ⌝ }
 {
-    let bad = controller.bad_state();
+    let bad = panel.bad_state();
     let status = publish_status(bad, memory.len(), frame.len());
     let go = status::accepted(status);
-    let mut after = controller;
-    let marks = after.marks;
+    let mut after = panel;
+    let mut controller = after.controller;
+    let marks = controller.marks;
     let dirty = marks.dirty;
-    let flags = flags_if(go, after.power, after.chip.registers, after.cfg);
+    let flags = flags_if(go, controller);
     let span = span_if(go, dirty);
     copy_span(span, memory, frame);
     let left = span_if(!go, dirty);
     let marks_after = Marks { dirty: left };
-    after.marks = marks_after;
+    controller.marks = marks_after;
+    after.controller = controller;
     Published {
-        controller: after,
+        panel: after,
         span,
         flags,
         status,

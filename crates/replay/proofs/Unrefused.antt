@@ -14,52 +14,52 @@ use Rattle.logs.specs.Log.{Segment, segments, logOf, logRefusal, badOffset}
 use Rattle.logs.specs.Stored.{Storable, Each}
 use Rattle.logs.proofs.Bounds.{accepted, total, total-within}
 use Rattle.logs.proofs.Stored.{segments-stored, stored-accepted}
-use Rattle.st7789.specs.Refusals.{pixelsHeld, countHigh, bareRefusal}
-use Rattle.st7789.specs.Entries.{freshController, bareTransferred}
-use Rattle.st7789.specs.declared.Controller.{Controller}
+use Rattle.st7789.specs.Refusals.{pixelsHeld, countsOf, bareRefusal}
+use Rattle.st7789.specs.Entries.{freshController, emptyLists, freshPanel, bareTransferred}
+use Rattle.st7789.specs.declared.St7789p3.{St7789p3}
 use Rattle.laws.specs.Valid.{Good}
 use Rattle.laws.proofs.Stays.{moved-good}
-use Rattle.laws.proofs.Reach.{good-not-bad, fresh-good, bare-good}
+use Rattle.laws.proofs.Reach.{fresh-good, bare-good}
 use Rattle.laws.proofs.Counts.{moved-grown}
 use Rattle.lists.specs.Fixed.{used}
+use Rattle.lists.specs.Entries.{some}
 use Rattle.text.specs.Text.{appended}
 use Rattle.text.proofs.Text.{count-room, used-room}
 use Rattle.report.specs.Report.{report}
 use Rattle.report.proofs.Room.{line-most, report-most}
 use Rattle.lines.specs.Lines.{ascii, line}
-use Rattle.replay.specs.Replay.{sent, replayed, printed, made, NoneRefused}
+use Rattle.replay.specs.Replay.{logged, sent, replayed, printed, made, NoneRefused}
 
 -- Counts of at most n.
-record Few (n : ℕ) (s : Controller) : Type 0 where
-  commands : s .counts .commands ≤ n
-  ramwrs : s .counts .«ramwr_count» ≤ n
-  pixels : s .counts .«pixels_written» ≤ n
-  dropped : s .counts .«dropped_params» ≤ n
-  held : pixelsHeld (s .logs .current) (s .records) ≤ n
+record Few (n : ℕ) (s : St7789p3) : Type 0 where
+  commands : s .controller .counts .commands ≤ n
+  ramwrs : s .controller .counts .«ramwr_count» ≤ n
+  pixels : s .controller .counts .«pixels_written» ≤ n
+  dropped : s .controller .counts .«dropped_params» ≤ n
+  held : pixelsHeld (s .controller .logs .current) (s .records) ≤ n
 
 not-high : (x n : ℕ) → x ≤ n → n ≤ 65536 → high x ≡ false
 not-high x n h k = le-ltb (2 ^ 63) x (omega arith)
 
-few-not-high : (n : ℕ) (s : Controller) → Few n s → n ≤ 65536 → countHigh s ≡ false
-unfolding countHigh
+few-not-high : (n : ℕ) (s : St7789p3) → Few n s → n ≤ 65536 → some high (countsOf s) ≡ false
 few-not-high n s f h =
     rw (
-      not-high (s .counts .commands) n (f .commands) h,
-      not-high (s .counts .«ramwr_count») n (f .ramwrs) h,
-      not-high (s .counts .«pixels_written») n (f .pixels) h,
-      not-high (s .counts .«dropped_params») n (f .dropped) h,
-      not-high (pixelsHeld (s .logs .current) (s .records)) n (f .held) h,
+      not-high (s .controller .counts .commands) n (f .commands) h,
+      not-high (s .controller .counts .«ramwr_count») n (f .ramwrs) h,
+      not-high (s .controller .counts .«pixels_written») n (f .pixels) h,
+      not-high (s .controller .counts .«dropped_params») n (f .dropped) h,
+      not-high (pixelsHeld (s .controller .logs .current) (s .records)) n (f .held) h,
     )
 
-not-refused : (n k : ℕ) (s : Controller) → Good s → Few n s → n + k ≤ 65536 → bareRefusal s k ≡ 0
+not-refused : (n k : ℕ) (s : St7789p3) → Good s → Few n s → n + k ≤ 65536 → bareRefusal s k ≡ 0
 unfolding bareRefusal
-not-refused n k s g f h = rw (good-not-bad s g, le-ltb 65536 k (omega arith), few-not-high n s f (omega arith))
+not-refused n k s g f h = rw (g .fine, le-ltb 65536 k (omega arith), few-not-high n s f (omega arith))
 
-made-is-sent : (s : Controller) (r : Segment) → bareRefusal s (length (r .bytes)) ≡ 0 → sent s r ≡ made s r
+made-is-sent : (s : St7789p3) (r : Segment) → bareRefusal s (length (r .bytes)) ≡ 0 → sent s r ≡ made s r
 unfolding bareTransferred
 made-is-sent s r e = ap (λ n. unlessRefused n (made s r) s) e
 
-grown : (n : ℕ) (s : Controller) (r : Segment) → Good s → Few n s → Few (n + length (r .bytes)) (made s r)
+grown : (n : ℕ) (s : St7789p3) (r : Segment) → Good s → Few n s → Few (n + length (r .bytes)) (made s r)
 grown n s r g f =
     let h = moved-grown (r .time) (r .dc) (r .bytes) (r .release) s g in
     record {
@@ -70,11 +70,11 @@ grown n s r g f =
       held = omega (arith, f .held, h .held);
     }
 
-pub record Plain (s : Controller) (rs : List Segment) : Type 0 where
+pub record Plain (s : St7789p3) (rs : List Segment) : Type 0 where
   pub none-refused : NoneRefused s rs
   pub exactly : foldl sent s rs ≡ foldl made s rs
 
-plain : (n : ℕ) (s : Controller) (rs : List Segment) → Good s → Few n s → n + total rs ≤ 65536 → Plain s rs
+plain : (n : ℕ) (s : St7789p3) (rs : List Segment) → Good s → Few n s → n + total rs ≤ 65536 → Plain s rs
 plain n s [] g f h = record { none-refused = tt; exactly = refl }
 plain n s (r ∷ rs) g f h =
     let zero = not-refused n (length (r .bytes)) s g f (omega arith) in
@@ -85,51 +85,51 @@ plain n s (r ∷ rs) g f h =
       exactly = ap (λ s. foldl sent s rs) e ∙ rest .exactly;
     }
 
-fresh-few : Few 0 (freshController true)
-unfolding freshController
+fresh-few : Few 0 (freshPanel logged)
+unfolding freshController emptyLists
 fresh-few = record { commands = omega arith; ramwrs = omega arith; pixels = omega arith; dropped = omega arith; held = omega arith }
 
 -- An accepted log.
 module _ (log : List ℕ) (e : logRefusal log ≡ 0) where
-  in-log : Plain (freshController true) (segments log)
+  in-log : Plain (freshPanel logged) (segments log)
   in-log =
       let h = accepted log e in
       let t = total-within log in
-      plain 0 (freshController true) (segments log) (fresh-good true) fresh-few (omega (arith, h .few))
+      plain 0 (freshPanel logged) (segments log) (fresh-good logged) fresh-few (omega (arith, h .few))
 
-  pub none-refused-in-log : NoneRefused (freshController true) (segments log)
+  pub none-refused-in-log : NoneRefused (freshPanel logged) (segments log)
   none-refused-in-log = in-log .none-refused
 
-  pub exactly-replayed : replayed log ≡ foldl made (freshController true) (segments log)
+  pub exactly-replayed : replayed log ≡ foldl made (freshPanel logged) (segments log)
   unfolding replayed
   exactly-replayed = in-log .exactly
 
 -- What is stored within the limit is accepted, and printed as the panel after exactly those transfers.
 pub stored-printed :
-    (rs : List Segment) → Each Storable rs → length (logOf rs) ≤ 65536 → printed (logOf rs) ≡ report (foldl made (freshController true) rs)
+    (rs : List Segment) → Each Storable rs → length (logOf rs) ≤ 65536 → printed (logOf rs) ≡ report (foldl made (freshPanel logged) rs)
 unfolding printed
 stored-printed rs h few =
     let zero = stored-accepted rs h few in
     ap
     (λ n. unlessRefused n (report (replayed (logOf rs))) (line (ascii "refused") (logRefusal (logOf rs) ∷ badOffset (logOf rs) ∷ [])))
     zero
-    ∙ ap report (exactly-replayed (logOf rs) zero ∙ ap (foldl made (freshController true)) (segments-stored rs h))
+    ∙ ap report (exactly-replayed (logOf rs) zero ∙ ap (foldl made (freshPanel logged)) (segments-stored rs h))
 
 -- Every log leaves a good state, and room for 17,801 bytes is enough for what is printed.
-all-good : (s : Controller) (rs : List Segment) → Good s → Good (foldl sent s rs)
+all-good : (s : St7789p3) (rs : List Segment) → Good s → Good (foldl sent s rs)
 all-good s [] g = g
 all-good s (r ∷ rs) g = all-good (sent s r) rs (bare-good (r .time) (r .dc) (r .bytes) (r .release) s g)
 
 pub good-replayed : (log : List ℕ) → Good (replayed log)
 unfolding replayed
-good-replayed log = all-good (freshController true) (segments log) (fresh-good true)
+good-replayed log = all-good (freshPanel logged) (segments log) (fresh-good logged)
 
 pub printed-most : (log : List ℕ) → length (printed log) ≤ 17801
 unfolding printed
 printed-most log = go (eqb (logRefusal log) 0)
   where
     go : (b : Bool) → length (cond b (report (replayed log)) (line (ascii "refused") (logRefusal log ∷ badOffset log ∷ []))) ≤ 17801
-    go true = report-most (replayed log) (good-not-bad (replayed log) (good-replayed log))
+    go true = report-most (replayed log) (good-replayed log .fine)
     go false = let h = line-most (ascii "refused") (logRefusal log ∷ badOffset log ∷ []) in omega arith
 
 -- So a buffer of that room holds the whole text, and the answer is its length.

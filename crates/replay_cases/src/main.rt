@@ -23,10 +23,10 @@ fn show_stored(name: &[u8], code: u8) {
     let n = io::read_full(fd, &mut log);
     libc::close(fd);
     let answer = replay::replay(&log[..n]);
-    let controller = answer.controller;
+    let panel = answer.panel;
     let at = lists::stored_place(code);
     if at < 12 {
-        let entry = controller.stored[at];
+        let entry = panel.stored[at];
         let params = entry.params;
         let named = lines::put_hex_bytes(&mut out, 0, &[code]);
         let written = report::put_params(&mut out, named, params);

@@ -21,8 +21,8 @@ use Rattle.chip.specs.declared.Registers.{Registers}
 use Rattle.st7789.specs.Parts.{traceOf, warningsOf}
 use Rattle.st7789.specs.Refusals.{badState}
 use Rattle.st7789.specs.declared.Counts.{Counts}
-use Rattle.st7789.specs.declared.Controller.{Controller}
-use Rattle.st7789.proofs.Tests.{fine}
+use Rattle.st7789.specs.declared.St7789p3.{St7789p3}
+use Rattle.st7789.proofs.Tests.{clause}
 use Rattle.boot.specs.Boot.{compared}
 use Rattle.boot.specs.declared.BootCheck.{BootCheck}
 use Rattle.boot.specs.declared.BootCheck.the-variants.{Match, Differs, Missing}
@@ -112,19 +112,18 @@ traces-most (r ∷ l) e =
     let rest = traces-most l (h .1) in
     simp (length-append) (omega arith)
 
-pub report-most : (s : Controller) → badState s ≡ false → length (report s) ≤ 17801
+pub report-most : (s : St7789p3) → badState s ≡ false → length (report s) ≤ 17801
 unfolding report chipLines
 report-most s e =
-    let f = fine s e in
-    let a = regs-most (s .chip .registers) in
-    let b = win-most (s .chip .window) (s .chip .walk .pointer) in
-    let c = cnt-most (s .counts) (s .logs .warned) in
-    let d = dirty-most (s .marks .dirty) in
+    let a = regs-most (s .controller .chip .registers) in
+    let b = win-most (s .controller .chip .window) (s .controller .chip .walk .pointer) in
+    let c = cnt-most (s .controller .counts) (s .controller .logs .warned) in
+    let d = dirty-most (s .controller .marks .dirty) in
     let k = boot-most (compared (used (traceOf s)) .check) in
     let w = texts-most warningLine 47 warning-most (used (warningsOf s)) in
-    let t = traces-most (used (traceOf s)) (f .records) in
-    let wn = length-take (s .logs .warned) (s .warnings) in
-    let tn = length-take (s .logs .traced) (s .records) in
-    let wm = ltb-false 128 (s .logs .warned) (f .warned) in
-    let tm = ltb-false 128 (s .logs .traced) (f .traced) in
+    let t = traces-most (used (traceOf s)) (clause s e 4) in
+    let wn = length-take (s .controller .logs .warned) (s .warnings) in
+    let tn = length-take (s .controller .logs .traced) (s .records) in
+    let wm = ltb-false 128 (s .controller .logs .warned) (clause s e 6) in
+    let tm = ltb-false 128 (s .controller .logs .traced) (clause s e 5) in
     simp (length-append) (omega arith)

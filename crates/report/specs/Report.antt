@@ -14,7 +14,7 @@ use Rattle.chip.specs.declared.Registers.{Registers}
 use Rattle.chip.specs.declared.Chip.{Chip}
 use Rattle.st7789.specs.Parts.{traceOf, warningsOf}
 use Rattle.st7789.specs.declared.Counts.{Counts}
-use Rattle.st7789.specs.declared.Controller.{Controller}
+use Rattle.st7789.specs.declared.St7789p3.{St7789p3}
 use Rattle.boot.specs.Boot.{compared}
 use Rattle.boot.specs.declared.BootCheck.{BootCheck}
 use Rattle.boot.specs.declared.BootCheck.the-variants.{Match, Differs, Missing}
@@ -70,10 +70,10 @@ unfoldable pub chipLines : Chip → Counts → ℕ → List ℕ
 chipLines k n warned = regsLine (k .registers) ++ winLine (k .window) (k .walk .pointer) ++ cntLine n warned
 
 -- The lines in 01's order. "Warnings come before trace; order of arrival."
-unfoldable pub report : Controller → List ℕ
+unfoldable pub report : St7789p3 → List ℕ
 report s =
-    chipLines (s .chip) (s .counts) (s .logs .warned)
-    ++ dirtyLine (s .marks .dirty)
+    chipLines (s .controller .chip) (s .controller .counts) (s .controller .logs .warned)
+    ++ dirtyLine (s .controller .marks .dirty)
     ++ bootLine (compared (used (traceOf s)) .check)
     ++ texts warningLine (used (warningsOf s))
     ++ texts traceLine (used (traceOf s))

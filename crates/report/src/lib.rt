@@ -1,6 +1,5 @@
 // What the program prints of a panel, as text in a lent buffer. What does not fit is left out.
 ghost use mathlib.Core.Path.{_≡_};
-ghost use Prim.Native.Nat.{min};
 ghost use lib.ListN.{take};
 ghost use Rattle.text.specs.Text.{appended};
 ghost use Rattle.lines.specs.Lines.{texts, hexBytes};
@@ -11,12 +10,13 @@ use chip::Chip;
 use chip::Registers;
 use geometry::Pointer;
 use geometry::Window;
+use lists::PLACES;
 use lists::Params;
 use lists::TraceRecord;
 use lists::Warning;
 use pixels::Span;
-use st7789::Controller;
 use st7789::Counts;
+use st7789::St7789p3;
 
 fn number(on: bool) -> u64
     ensures { λ r. ⌜ r ≡ flag on ⌝ }
@@ -100,19 +100,12 @@ fn put_warning(out: &mut [u8], at: usize, w: Warning) -> usize
     text::put_byte(out, timed, b'\n')
 }
 
-fn lesser(n: u8, most: usize) -> usize
-    ensures { λ r. ⌜ r ≡ min n most ⌝ }
-{
-    let wide = n as usize;
-    if wide < most { wide } else { most }
-}
-
 // The parameters of a list, each in hex after a space.
 pub fn put_params(out: &mut [u8], at: usize, p: Params) -> usize
     ensures answer { λ r. ⌜ r ≡ appended (now (out .entry)) at (hexBytes (listed p)) .count ⌝ }
     ensures lent { λ r. ⌜ now (out .exit) ≡ appended (now (out .entry)) at (hexBytes (listed p)) .places ⌝ }
 {
-    let n = lesser(p.count, 14);
+    let n = lists::free(p.count, 14);
     let bytes = p.bytes;
     lines::put_hex_bytes(out, at, &bytes[..n])
 }
@@ -131,11 +124,11 @@ pub fn put_record(out: &mut [u8], at: usize, r: TraceRecord) -> usize
 }
 
 // The used warnings, each as its `w` line.
-pub fn put_warnings(out: &mut [u8], at: usize, warnings: [Warning; 128], n: u8) -> usize
+pub fn put_warnings(out: &mut [u8], at: usize, warnings: [Warning; PLACES], n: u8) -> usize
     ensures answer { λ r. ⌜ r ≡ appended (now (out .entry)) at (texts warningLine (take n warnings)) .count ⌝ }
     ensures lent { λ r. ⌜ now (out .exit) ≡ appended (now (out .entry)) at (texts warningLine (take n warnings)) .places ⌝ }
 {
-    let end = lesser(n, 128);
+    let end = lists::free(n, PLACES);
     let mut used = at;
     let mut i = 0;
     while i < end {
@@ -146,11 +139,11 @@ pub fn put_warnings(out: &mut [u8], at: usize, warnings: [Warning; 128], n: u8) 
     used
 }
 
-fn put_trace(out: &mut [u8], at: usize, records: [TraceRecord; 128], n: u8) -> usize
+fn put_trace(out: &mut [u8], at: usize, records: [TraceRecord; PLACES], n: u8) -> usize
     ensures { λ r. ⌜ r ≡ appended (now (out .entry)) at (texts traceLine (take n records)) .count ⌝ }
     ensures { λ r. ⌜ now (out .exit) ≡ appended (now (out .entry)) at (texts traceLine (take n records)) .places ⌝ }
 {
-    let end = lesser(n, 128);
+    let end = lists::free(n, PLACES);
     let mut used = at;
     let mut i = 0;
     while i < end {
@@ -176,18 +169,19 @@ fn put_chip(out: &mut [u8], at: usize, chip: Chip, counts: Counts, warned: u8) -
 }
 
 // What 01's program prints of a panel, from the buffer's start on; the answer is how much of the buffer it takes.
-pub fn write_report(controller: Controller, out: &mut [u8]) -> usize
-    ensures answer { λ r. ⌜ r ≡ appended (now (out .entry)) 0 (report controller) .count ⌝ }
-    ensures lent { λ r. ⌜ now (out .exit) ≡ appended (now (out .entry)) 0 (report controller) .places ⌝ }
+pub fn write_report(panel: St7789p3, out: &mut [u8]) -> usize
+    ensures answer { λ r. ⌜ r ≡ appended (now (out .entry)) 0 (report panel) .count ⌝ }
+    ensures lent { λ r. ⌜ now (out .exit) ≡ appended (now (out .entry)) 0 (report panel) .places ⌝ }
 {
+    let controller = panel.controller;
     let chip = controller.chip;
     let counts = controller.counts;
     let marks = controller.marks;
     let dirty = marks.dirty;
     let traced = controller.logs.traced;
     let warned = controller.logs.warned;
-    let records = controller.records;
-    let warnings = controller.warnings;
+    let records = panel.records;
+    let warnings = panel.warnings;
     let compared = boot::trace_mismatch(records, traced);
     let check = compared.check;
     let told = put_chip(out, 0, chip, counts, warned);

@@ -1,221 +1,158 @@
--- A command's begin, and the loop over a segment of commands.
-use Prim.Native.Nat.{ℕ, _+_, _-_, _^_, _≤_, _<_}
-use mathlib.Core.Path.{_≡_, refl, sym, ap, _∙_}
-use mathlib.Core.Bool.{Bool, true, false, cond, _&&_, _||_, true≢false}
-use mathlib.Core.List.{List, [], _∷_, map}
+-- A command's begin: the loop over the rules that it breaks, and the loop over a segment of commands.
+use Prim.Native.Nat.{ℕ, _+_, _-_, _^_, _≤_, _<_, min}
+use mathlib.Core.Path.{_≡_, refl, sym, ap, ap₂, _∙_}
+use mathlib.Core.Bool.{Bool, true, false, cond, _&&_}
+use mathlib.Core.List.{List, map}
 use native.Mathlib.Numerals.{add-one}
 use native.Mathlib.Omega.{arith}
+use borrow.Author.Tests.{ltb-true, ltb-false}
 use lib.Dec.{ltb, eqb}
 use lib.ListN.{length, set, getD, drop, drop-of-length-le}
-use lib.Seq.{drop-cons, set-getD}
-use Rattle.lists.specs.Fixed.{Fixed, push, pushAll}
-use Rattle.lists.proofs.Bools.{neither}
+use lib.Seq.{drop-cons}
+use Rattle.lists.specs.Fixed.{Fixed, places, push, pushAll}
+use Rattle.lists.specs.declared.Stored.{Stored}
 use Rattle.lists.specs.declared.TraceRecord.{TraceRecord}
 use Rattle.lists.specs.declared.Warning.{Warning}
 use Rattle.lists.specs.declared.Current.the-variants.{Nothing, At}
-use Rattle.chip.specs.Begin.{chipBegun}
-use Rattle.chip.specs.declared.Chip.{Chip}
+use Rattle.lists.proofs.Bools.{both}
+use Rattle.lists.proofs.Fixed.{full}
+use Rattle.lists.proofs.Putting.{put-free, put-none}
 use Rattle.timing.specs.Lint.{brokenBy, rulesOf}
-use Rattle.timing.specs.declared.Broken.{Broken}
-use Rattle.st7789.specs.Parts.{warningsOf, whole, withWarnings}
-use Rattle.st7789.specs.Command.{warning, countsBegun, begunRecord, begun, begunAll}
-use Rattle.st7789.specs.Data.{noRecord}
-use Rattle.st7789.specs.Places.{slotOf, logsBegun}
-use Rattle.st7789.specs.Room.{Room}
-use Rattle.st7789.specs.declared.Counts.{Counts}
-use Rattle.st7789.specs.declared.Logs.{Logs}
+use Rattle.st7789.specs.Parts.{withController, withLogs}
+use Rattle.st7789.specs.Command.{warning, linted, begunRecord, logsBegun, begun, begunAll}
+use Rattle.st7789.specs.Places.{commandBegun}
+use Rattle.st7789.specs.Room.{Countable}
 use Rattle.st7789.specs.declared.Controller.{Controller}
+use Rattle.st7789.specs.declared.Logs.{Logs}
+use Rattle.st7789.specs.declared.St7789p3.{St7789p3}
 
--- The broken rules one by one are the broken rules in order.
-rules-in-turn :
-    (f : Fixed Warning) (w : ℕ → Warning) (b : Broken) →
-    pushAll 128 (pushAll 128 (pushAll 128 f (cond (b .rule1) (w 1 ∷ []) [])) (cond (b .rule2) (w 2 ∷ []) [])) (cond (b .rule3) (w 3 ∷ []) []) ≡
-    pushAll 128 f (map w (rulesOf b))
-rules-in-turn f w b = go (b .rule1) (b .rule2) (b .rule3)
-  where
-    go :
-        (x y z : Bool) →
-        pushAll 128 (pushAll 128 (pushAll 128 f (cond x (w 1 ∷ []) [])) (cond y (w 2 ∷ []) [])) (cond z (w 3 ∷ []) []) ≡
-        pushAll 128 f (map w (rulesOf (record { rule1 = x; rule2 = y; rule3 = z })))
-    go true true true = refl
-    go true true false = refl
-    go true false true = refl
-    go true false false = refl
-    go false true true = refl
-    go false true false = refl
-    go false false true = refl
-    go false false false = refl
+-- The trace with a record more, over a list that is the old one.
+module _ (n : ℕ) {at : ℕ} (ea : at ≡ min n places) {l l′ : List TraceRecord} (el : l′ ≡ l) where
+  pub record-put : {x y : TraceRecord} → at < places → x ≡ y → set l′ at x ≡ push places (record { count = n; places = l }) y .places
+  record-put {x} {y} h ex =
+      ap (λ l. set l at x) el ∙ ap (set l at) ex ∙ ap (λ (f : Fixed TraceRecord). f .places) (put-free places n ea l y h)
 
--- The trace after a record more.
-abbrev pushed : ℕ → List TraceRecord → TraceRecord → Fixed TraceRecord
-pushed n l x = push 128 (record { count = n; places = l }) x
+  pub record-full : (y : TraceRecord) → places ≤ at → l′ ≡ push places (record { count = n; places = l }) y .places
+  record-full y h = el ∙ ap (λ (f : Fixed TraceRecord). f .places) (put-none places n ea l y h)
 
--- The record is stored where there is room, what stood there where there is none.
-record-put :
-    (n : ℕ) (l : List TraceRecord) (x : TraceRecord) {at : ℕ} {r : TraceRecord} → at ≡ slotOf n →
-    r ≡ cond (ltb n 128) x (getD l at noRecord) → set l at r ≡ pushed n l x .places
-record-put n l x ea er = rw (er, ea) (go (ltb n 128))
-  where
-    go :
-        (b : Bool) →
-        let g : Fixed TraceRecord = cond b (record { count = n + 1; places = set l n x }) (record { count = n; places = l }) in
-        set l (cond b n 0) (cond b x (getD l (cond b n 0) noRecord)) ≡ g .places
-    go true = refl
-    go false = set-getD l 0 noRecord
+-- The test of the loop over the broken rules.
+pub within-both : {n : ℕ} (k at : ℕ) {m : ℕ} → m ≡ n → ltb k m && ltb at places ≡ true → (k < n) × (at < places)
+within-both {n} k at {m} e h =
+    let t = both (ltb k m) (ltb at places) h in
+    (rw e at (ltb-true k m (t .0)), ltb-true at places (t .1))
 
-full-trace : (n : ℕ) (l : List TraceRecord) (x : TraceRecord) → ltb n 128 ≡ false → l ≡ pushed n l x .places
-full-trace n l x e = rw e
+-- The loop over the broken rules: s and l are what s₀ and l₀ became by the first k of them.
+abbrev pub warningsBy : Logs → St7789p3 → Fixed Warning
+warningsBy l s = record { count = l .warned; places = s .warnings }
 
--- The count of the trace beside its places.
-count-put :
-    (b : Bool) (n : ℕ) (l m : List TraceRecord) (f : ℕ → List TraceRecord → Controller) →
-    let g : Fixed TraceRecord = cond b (record { count = n + 1; places = m }) (record { count = n; places = l }) in
-    f (cond b (n + 1) n) (g .places) ≡ f (g .count) (g .places)
-count-put true n l m f = refl
-count-put false n l m f = refl
+pub record Kept (w : ℕ → Warning) (rules : List ℕ) (s₀ : St7789p3) (l₀ : Logs) (s : St7789p3) (l : Logs) (k : ℕ) : Type 0 where
+  pub left : pushAll places (warningsBy l s) (map w (drop k rules)) ≡ pushAll places (warningsBy l₀ s₀) (map w rules)
+  pub traced : l .traced ≡ l₀ .traced
+  pub stored : s .stored ≡ s₀ .stored
+  pub «records» : s .records ≡ s₀ .records
 
-none-broken : (x y z : Bool) → x || (y || z) ≡ false → rulesOf (record { rule1 = x; rule2 = y; rule3 = z }) ≡ []
-none-broken true y z e = absurd (true≢false e)
-none-broken false true z e = absurd (true≢false e)
-none-broken false false true e = absurd (true≢false e)
-none-broken false false false e = refl
+module _ {w : ℕ → Warning} {rules : List ℕ} {s₀ : St7789p3} {l₀ : Logs} where
+  pub kept-first : Kept w rules s₀ l₀ s₀ l₀ 0
+  kept-first = record { left = refl; traced = refl; stored = refl; «records» = refl }
 
--- A full list keeps nothing.
-full-kept : (f : Fixed Warning) (xs : List Warning) → ltb (f .count) 128 ≡ false → pushAll 128 f xs ≡ f
-full-kept f [] e = refl
-full-kept f (x ∷ xs) e =
-    ap (λ g. pushAll 128 g xs) (ap (λ b. cond b (record { count = f .count + 1; places = set (f .places) (f .count) x }) f) e)
-    ∙ full-kept f xs e
+  pub kept-next :
+      {s s′ : St7789p3} {l l′ : Logs} {k rule : ℕ} → Kept w rules s₀ l₀ s l k → k < length rules → rule ≡ getD rules k 0 →
+      warningsBy l′ s′ ≡ push places (warningsBy l s) (w rule) → l′ .traced ≡ l .traced → s′ .stored ≡ s .stored → s′ .records ≡ s .records →
+      Kept w rules s₀ l₀ s′ l′ (k + 1)
+  kept-next {s} {s′} {l} {l′} {k} {rule} u h ex e et es er =
+      record {
+        left =
+            ap (λ f. pushAll places f (map w (drop (k + 1) rules))) (e ∙ ap (λ r. push places (warningsBy l s) (w r)) ex)
+            ∙ rw (add-one k) (rw (drop-cons rules k 0 h) at (u .left));
+        traced = et ∙ u .traced;
+        stored = es ∙ u .stored;
+        «records» = er ∙ u .«records»;
+      }
 
-nothing-kept :
-    (f : Fixed Warning) (w : ℕ → Warning) (b : Broken) → ltb (f .count) 128 && (b .rule1 || (b .rule2 || b .rule3)) ≡ false →
-    pushAll 128 f (map w (rulesOf b)) ≡ f
-nothing-kept f w b e = by-test (ltb (f .count) 128) refl e
-  where
-    by-test : (x : Bool) → ltb (f .count) 128 ≡ x → x && (b .rule1 || (b .rule2 || b .rule3)) ≡ false → pushAll 128 f (map w (rulesOf b)) ≡ f
-    by-test true ex h = ap (λ l. pushAll 128 f (map w l)) (none-broken (b .rule1) (b .rule2) (b .rule3) h)
-    by-test false ex h = full-kept f (map w (rulesOf b)) ex
+  -- It ends with the rules, or with the places.
+  pub kept-last :
+      {s : St7789p3} {l : Logs} {k at m : ℕ} → Kept w rules s₀ l₀ s l k → at ≡ min (l .warned) places → m ≡ length rules →
+      ltb k m && ltb at places ≡ false → warningsBy l s ≡ pushAll places (warningsBy l₀ s₀) (map w rules)
+  kept-last {s} {l} {k} {at} {m} u e em h = by-test (ltb k m) refl h
+    where
+      by-test :
+          (b : Bool) → ltb k m ≡ b → b && ltb at places ≡ false →
+          warningsBy l s ≡ pushAll places (warningsBy l₀ s₀) (map w rules)
+      by-test true eb f =
+          let full-up : places ≤ l .warned = omega (arith, e, ltb-false at places f) in
+          sym (full places (warningsBy l s) (map w (drop k rules)) full-up) ∙ u .left
+      by-test false eb f =
+          let past : length rules ≤ k = omega (arith, em, ltb-false k m eb) in
+          rw (drop-of-length-le rules past) at (u .left)
 
--- What stands past the end of the warnings' places.
-abbrev noWarning : Warning
-noWarning = record { at = 0; rule = 0; cmd = 0 }
+-- Equal parts make equal panels.
+pub same-panel :
+    {k k′ : Controller} {st st′ : List Stored} {rs rs′ : List TraceRecord} {ws ws′ : List Warning} → k ≡ k′ → st ≡ st′ → rs ≡ rs′ → ws ≡ ws′ →
+    _≡_ {A = St7789p3} (record { controller = k; stored = st; records = rs; warnings = ws })
+    (record { controller = k′; stored = st′; records = rs′; warnings = ws′ })
+same-panel e1 e2 e3 e4 = cc
 
--- A warning is stored where its rule is broken and there is room, what stood there where not.
-warned-put :
-    (a : Bool) (x : Warning) (n : ℕ) (l : List Warning) {at m : ℕ} {w : Warning} → at ≡ slotOf n →
-    w ≡ cond (a && ltb n 128) x (getD l at noWarning) → m ≡ cond (a && ltb n 128) (n + 1) n →
-    _≡_ {A = Fixed Warning} (record { count = m; places = set l at w }) (pushAll 128 (record { count = n; places = l }) (cond a (x ∷ []) []))
-warned-put a x n l ea ew em = rw (em, ew, ea) (go a (ltb n 128) ∙ as-push a)
-  where
-    go :
-        (a b : Bool) →
-        _≡_ {A = Fixed Warning}
-        (record { count = cond (a && b) (n + 1) n; places = set l (cond b n 0) (cond (a && b) x (getD l (cond b n 0) noWarning)) })
-        (cond a (cond b (record { count = n + 1; places = set l n x }) (record { count = n; places = l })) (record { count = n; places = l }))
-    go true true = refl
-    go true false = ap (λ l. record { count = n; places = l }) (set-getD l 0 noWarning)
-    go false true = ap (λ l. record { count = n; places = l }) (set-getD l n noWarning)
-    go false false = ap (λ l. record { count = n; places = l }) (set-getD l 0 noWarning)
+-- The logs begin a command by how many records they count, and by the warnings.
+logs-alike : (n : ℕ) (l l₀ : Logs) → l .traced ≡ l₀ .traced → logsBegun n l ≡ logsBegun n l₀
+logs-alike n l l₀ e =
+    ap
+    (λ k. cond {A = Logs} (ltb k places) (record { traced = k + 1; warned = n; current = At k }) (record { traced = k; warned = n; current = Nothing }))
+    e
 
-    as-push :
-        (a : Bool) →
-        _≡_ {A = Fixed Warning}
-        (cond a (cond (ltb n 128) (record { count = n + 1; places = set l n x }) (record { count = n; places = l })) (record { count = n; places = l }))
-        (pushAll 128 (record { count = n; places = l }) (cond a (x ∷ []) []))
-    as-push true = refl
-    as-push false = refl
+-- A command begun, put together from the rules that it broke, the controller, the logs and the records.
+module _ (c t : ℕ) (k₀ : Controller) (l₀ : Logs) (p : St7789p3) where
+  abbrev before : St7789p3
+  before = withController (withLogs l₀ k₀) p
 
--- The controller with the parts that a segment of commands keeps in locals.
-abbrev pub put : Controller → Chip → Counts → Logs → Controller
-put s chip counts logs = whole (s .cfg) (s .power) chip counts (s .marks .dirty) logs (s .stored) (s .records) (s .warnings)
+  pub begun-put :
+      {rules : List ℕ} (l : Logs) {l′ : Logs} {ws : List Warning} {k : Controller} {st : List Stored} {rs : List TraceRecord} →
+      rules ≡ rulesOf (brokenBy (k₀ .chip .times) (k₀ .chip .registers .colmod) c t) →
+      _≡_ {A = Fixed Warning} (record { count = l .warned; places = ws }) (pushAll places (warningsBy l₀ p) (map (warning c t) rules)) →
+      l .traced ≡ l₀ .traced → l′ ≡ logsBegun (l .warned) l → k ≡ commandBegun c t k₀ → st ≡ p .stored →
+      rs ≡ push places (record { count = l₀ .traced; places = p .records }) (begunRecord c t) .places →
+      _≡_ {A = St7789p3} (record { controller = withLogs l′ k; stored = st; records = rs; warnings = ws }) (begun c t before)
+  unfolding begun
+  begun-put {rules} l eb ew et el ek es er =
+      let e : _≡_ {A = Fixed Warning} _ (linted c t before) = ew ∙ ap (λ b. pushAll places (warningsBy l₀ p) (map (warning c t) b)) eb in
+      let n : l .warned ≡ linted c t before .count = ap (λ (f : Fixed Warning). f .count) e in
+      same-panel (ap₂ withLogs (el ∙ logs-alike (l .warned) l l₀ et ∙ ap (λ n. logsBegun n l₀) n) ek) es er
+      (ap (λ (f : Fixed Warning). f .places) e)
 
--- The controller after a turn, before the warnings.
-abbrev turned : Controller → Chip → Counts → Logs → List TraceRecord → Controller
-turned s chip counts logs l = whole (s .cfg) (s .power) chip counts (s .marks .dirty) logs (s .stored) l (s .warnings)
-
-module _
-    (c t : ℕ) (s : Controller) {b : Broken} {chip : Chip} {counts : Counts} {logs : Logs}
-    (eb : b ≡ brokenBy (s .chip .times) (s .chip .registers .colmod) c t) (ech : chip ≡ chipBegun c t (s .chip))
-    (ect : counts ≡ countsBegun c (s .counts)) (el : logs ≡ logsBegun (s .logs))
-  where
-    -- the warnings may come last
-    late :
-        {l : List TraceRecord} → l ≡ pushed (s .logs .traced) (s .records) (begunRecord c t) .places →
-        withWarnings (pushAll 128 (warningsOf (turned s chip counts logs l)) (map (warning c t) (rulesOf b))) (turned s chip counts logs l) ≡
-        begun c t s
-    unfolding begun
-    late er =
-        let n = s .logs .traced in
-        let w : Fixed Warning =
-        pushAll 128 (warningsOf s) (map (warning c t) (rulesOf (brokenBy (s .chip .times) (s .chip .registers .colmod) c t)))
-        in
-        rw (eb, ech, ect, el, er)
-        (count-put (ltb n 128) n (s .records) (set (s .records) n (begunRecord c t))
-        (λ k l.
-        whole (s .cfg) (s .power) (chipBegun c t (s .chip)) (countsBegun c (s .counts)) (s .marks .dirty)
-        (record { traced = k; warned = w .count; current = cond (ltb n 128) (At n) Nothing })
-        (s .stored) l (w .places)))
-
-    -- nothing to keep
-    pub quiet-turn :
-        {x : Bool} → x ≡ ltb (s .logs .traced) 128 || (ltb (logs .warned) 128 && (b .rule1 || (b .rule2 || b .rule3))) → x ≡ false →
-        turned s chip counts logs (s .records) ≡ begun c t s
-    quiet-turn ex e =
-        let n = s .logs .traced in
-        let k = neither (ltb n 128) (ltb (logs .warned) 128 && (b .rule1 || (b .rule2 || b .rule3))) (sym ex ∙ e) in
-        ap (λ f. withWarnings f (turned s chip counts logs (s .records)))
-        (sym (nothing-kept (warningsOf (turned s chip counts logs (s .records))) (warning c t) b (k .1)))
-        ∙ late (full-trace n (s .records) (begunRecord c t) (k .0))
-
-    pub loud-turn :
-        {at at₁ at₂ at₃ n₂ n₃ n₄ : ℕ} {r : TraceRecord} {w₁ w₂ w₃ : Warning} → at ≡ slotOf (s .logs .traced) →
-        r ≡ cond (ltb (s .logs .traced) 128) (begunRecord c t) (getD (s .records) at noRecord) → at₁ ≡ slotOf (logs .warned) →
-        w₁ ≡ cond (b .rule1 && ltb (logs .warned) 128) (warning c t 1) (getD (s .warnings) at₁ noWarning) →
-        n₂ ≡ cond (b .rule1 && ltb (logs .warned) 128) (logs .warned + 1) (logs .warned) → at₂ ≡ slotOf n₂ →
-        w₂ ≡ cond (b .rule2 && ltb n₂ 128) (warning c t 2) (getD (set (s .warnings) at₁ w₁) at₂ noWarning) →
-        n₃ ≡ cond (b .rule2 && ltb n₂ 128) (n₂ + 1) n₂ → at₃ ≡ slotOf n₃ →
-        w₃ ≡ cond (b .rule3 && ltb n₃ 128) (warning c t 3) (getD (set (set (s .warnings) at₁ w₁) at₂ w₂) at₃ noWarning) →
-        n₄ ≡ cond (b .rule3 && ltb n₃ 128) (n₃ + 1) n₃ →
-        withWarnings (record { count = n₄; places = set (set (set (s .warnings) at₁ w₁) at₂ w₂) at₃ w₃ })
-        (turned s chip counts logs (set (s .records) at r)) ≡
-        begun c t s
-    loud-turn {at} {at₁} {at₂} {at₃} {n₂} {n₃} {n₄} {r} {w₁} {w₂} {w₃} ea er ea₁ ew₁ en₂ ea₂ ew₂ en₃ ea₃ ew₃ en₄ =
-        let l = set (s .records) at r in
-        ap (λ f. withWarnings f (turned s chip counts logs l))
-        (warned-put (b .rule3) (warning c t 3) n₃ (set (set (s .warnings) at₁ w₁) at₂ w₂) ea₃ ew₃ en₄
-        ∙ ap (λ f. pushAll 128 f (cond (b .rule3) (warning c t 3 ∷ []) []))
-        (warned-put (b .rule2) (warning c t 2) n₂ (set (s .warnings) at₁ w₁) ea₂ ew₂ en₃
-        ∙ ap (λ f. pushAll 128 f (cond (b .rule2) (warning c t 2 ∷ []) []))
-        (warned-put (b .rule1) (warning c t 1) (logs .warned) (s .warnings) ea₁ ew₁ en₂))
-        ∙ rules-in-turn (warningsOf (turned s chip counts logs l)) (warning c t) b)
-        ∙ late (record-put (s .logs .traced) (s .records) (begunRecord c t) ea er)
-
--- The loop: what is left to begin from byte i on is what was to begin from the first.
-pub record Turn (t : ℕ) (bytes : List ℕ) (s₀ s : Controller) (i : ℕ) : Type 0 where
+-- The loop over a segment: s is what s₀ became by the first i commands.
+pub record Turn (t : ℕ) (bytes : List ℕ) (s₀ s : St7789p3) (i : ℕ) : Type 0 where
   pub within : i ≤ length bytes
-  pub commands : s .counts .commands + (length bytes - i) < 2 ^ 64
-  pub ramwrs : s .counts .«ramwr_count» + (length bytes - i) < 2 ^ 64
+  pub few : length bytes < 2 ^ 64
+  pub commands : s .controller .counts .commands + (length bytes - i) < 2 ^ 64
+  pub ramwrs : s .controller .counts .«ramwr_count» + (length bytes - i) < 2 ^ 64
   pub left : begunAll t (drop i bytes) s ≡ begunAll t bytes s₀
 
-pub one-more : (b : Bool) (n : ℕ) → cond b (n + 1) n ≤ n + 1
+one-more : (b : Bool) (n : ℕ) → cond b (n + 1) n ≤ n + 1
 one-more true n = omega arith
 one-more false n = omega arith
 
-module _ {t : ℕ} {bytes : List ℕ} {s₀ : Controller} where
-  pub turn-first : Room (length bytes) s₀ → Turn t bytes s₀ s₀ 0
-  turn-first r = record { within = omega arith; commands = omega (arith, r .commands); ramwrs = omega (arith, r .ramwrs); left = refl }
+module _ {t : ℕ} {bytes : List ℕ} {s₀ : St7789p3} where
+  pub turn-first : Countable (length bytes) (s₀ .controller .counts) → Turn t bytes s₀ s₀ 0
+  turn-first r =
+      record {
+        within = omega arith;
+        few = omega (arith, r .commands);
+        commands = omega (arith, r .commands);
+        ramwrs = omega (arith, r .ramwrs);
+        left = refl;
+      }
 
   pub turn-next :
-      {s s′ : Controller} {i : ℕ} → Turn t bytes s₀ s i → i < length bytes → s′ ≡ begun (getD bytes i 0) t s → Turn t bytes s₀ s′ (i + 1)
+      {s s′ : St7789p3} {i : ℕ} → Turn t bytes s₀ s i → i < length bytes → s′ ≡ begun (getD bytes i 0) t s → Turn t bytes s₀ s′ (i + 1)
   unfolding begun
   turn-next {s} {s′} {i} u h e =
       rw e
       (record {
         within = omega arith;
+        few = u .few;
         commands = omega (arith, u .commands);
-        ramwrs = omega (arith, u .ramwrs, one-more (eqb (getD bytes i 0) 0x2C) (s .counts .«ramwr_count»));
+        ramwrs = omega (arith, u .ramwrs, one-more (eqb (getD bytes i 0) 0x2C) (s .controller .counts .«ramwr_count»));
         left = rw (add-one i) (rw (drop-cons bytes i 0 h) at (u .left));
       })
 
-  pub turn-last : {s : Controller} {i : ℕ} → Turn t bytes s₀ s i → length bytes ≤ i → s ≡ begunAll t bytes s₀
+  pub turn-last : {s : St7789p3} {i : ℕ} → Turn t bytes s₀ s i → length bytes ≤ i → s ≡ begunAll t bytes s₀
   turn-last u h = rw (drop-of-length-le bytes h) at (u .left)

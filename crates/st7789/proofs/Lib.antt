@@ -1,5 +1,5 @@
-pub mod Commands
 pub mod Datas
-pub mod Places
 pub mod Tests
 pub mod Accepted
+pub mod Commands
+pub mod Moves

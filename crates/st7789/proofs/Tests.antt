@@ -1,167 +1,143 @@
--- The refusal tests, and what is known where none of them refuses.
-use Prim.Native.Nat.{ℕ, _+_, _≤_}
-use mathlib.Core.Path.{_≡_, refl, sym, ap, _∙_}
-use mathlib.Core.Bool.{Bool, true, false, cond, _||_}
+-- The refusal of a transfer, by what the code looks at; and BAD_STATE, from "not bad" to each clause and back.
+use Prim.Native.Nat.{ℕ, _+_, _≤_, _<_, min}
+use mathlib.Core.Path.{_≡_, refl, sym, ap, ap₂, _∙_}
+use mathlib.Core.Bool.{Bool, true, false, not, _||_}
+use mathlib.Core.List.{List}
 use native.Mathlib.Omega.{arith}
-use borrow.Author.Tests.{eqb-true, ltb-false, not-false}
-use lib.ListN.{getD, take}
+use borrow.Author.Tests.{lt-ltb, le-ltb, eqb-true, ltb-false, not-false}
+use lib.ListN.{length, getD, set, take, length-take}
+use lib.Seq.{set-getD, getD-take}
 use lib.Dec.{eqb}
-use Rattle.lists.specs.Fixed.{used}
-use Rattle.lists.specs.Params.{tooLong}
+use Rattle.lists.specs.Fixed.{Fixed, places}
+use Rattle.lists.specs.Params.{differ}
+use Rattle.lists.specs.Entries.{some, None, storedLong, recordLong}
+use Rattle.lists.specs.declared.Params.{Params}
+use Rattle.lists.specs.declared.TraceRecord.{TraceRecord}
 use Rattle.lists.specs.declared.Current.{Current}
 use Rattle.lists.specs.declared.Current.the-variants.{Nothing, At}
 use Rattle.lists.proofs.Bools.{neither}
-use Rattle.lists.specs.Entries.{some, storedLong, recordLong}
-use Rattle.geometry.specs.Bounds.{windowBad, pointerBad}
-use Rattle.pixels.specs.Spans.{spanBad}
-use Rattle.status.specs.Tests.{countsHigh, transferTests}
+use Rattle.lists.proofs.Scanning.{Gather, gather-first, gather-next}
+use Rattle.lists.proofs.Somes.{each-fails, none-passes, one-passes}
+use Rattle.status.specs.Tests.{first, transferRow}
 use Rattle.st7789.specs.Parts.{traceOf}
-use Rattle.st7789.specs.Data.{noRecord}
-use Rattle.st7789.specs.Refusals.{countBad, currentBad, badState, pixelsHeld, countHigh, transferRefusal, Fine}
-use Rattle.st7789.specs.Places.{currentSlot, wrongFor, heldFor, partsBad, judgedFor}
+use Rattle.st7789.specs.Data.{noRecord, onCurrent}
+use Rattle.st7789.specs.Places.{currentPlace, wrongFor, heldFor, ifCurrent, judgedFor}
+use Rattle.st7789.specs.Refusals.{countBad, currentBad, itself, clauses, clausesOf, badState, pixelsHeld, counted, countsOf, transferRefusal}
 use Rattle.st7789.specs.Room.{Placed}
-use Rattle.st7789.specs.declared.Controller.{Controller}
-use Rattle.st7789.proofs.Places.{wrong-here, held-here}
+use Rattle.st7789.specs.declared.St7789p3.{St7789p3}
 
--- BAD_STATE, clause by clause.
-pub none-of-four : (a b c d : Bool) → a || (b || (c || d)) ≡ false → (a ≡ false) × (b ≡ false) × (c ≡ false) × (d ≡ false)
-none-of-four a b c d e =
-    let e1 = neither a (b || (c || d)) e in
-    let e2 = neither b (c || d) (e1 .1) in
-    let e3 = neither c d (e2 .1) in
-    (e1 .0, e2 .0, e3 .0, e3 .1)
-
-pub fine : (s : Controller) → badState s ≡ false → Fine s
+pub clause : (s : St7789p3) → badState s ≡ false → (i : ℕ) → getD (clausesOf s) i false ≡ false
 unfolding badState
-fine s e =
-    let e1 = neither _ _ e in
-    let e2 = neither _ _ (e1 .1) in
-    let e3 = neither _ _ (e2 .1) in
-    let e4 = neither _ _ (e3 .1) in
-    let e5 = neither _ _ (e4 .1) in
-    let e6 = neither _ _ (e5 .1) in
-    let e7 = neither _ _ (e6 .1) in
-    let e8 = neither _ _ (e7 .1) in
-    record {
-      window = e1 .0;
-      pointer = e2 .0;
-      params = e3 .0;
-      stored = e4 .0;
-      traced = e5 .0;
-      warned = e6 .0;
-      records = e7 .0;
-      span = e8 .0;
-      current = e8 .1;
-    }
+clause s e i = each-fails itself (clausesOf s) e i false refl
 
-pub not-bad : (s : Controller) → Fine s → badState s ≡ false
+pub not-bad : (s : St7789p3) → None itself (clausesOf s) → badState s ≡ false
 unfolding badState
-not-bad s f =
-    rw (f .window, f .pointer, f .params, f .stored, f .traced, f .warned, f .records, f .span, f .current)
+not-bad s h = none-passes itself (clausesOf s) h
 
--- The clauses in the code's order: span before records.
-in-turn :
-    (w p l d t n b r k : Bool) →
-    w || (p || (l || (d || (t || (n || (r || (b || k))))))) ≡ (w || (p || l)) || (d || (t || (n || b))) || (r || k)
-in-turn true p l d t n b r k = refl
-in-turn false true l d t n b r k = refl
-in-turn false false true d t n b r k = refl
-in-turn false false false true t n b r k = refl
-in-turn false false false false true n b r k = refl
-in-turn false false false false false true b r k = refl
-in-turn false false false false false false true true k = refl
-in-turn false false false false false false true false k = refl
-in-turn false false false false false false false r k = refl
+place-here : (i : ℕ) → i < places → currentPlace (At i) ≡ i
+place-here i h = rw (lt-ltb i places h)
 
--- The tests in turn: x is what was told of the parts, n how many records were looked at.
-module _
-    (s : Controller) (x : Bool) (ex : x ≡ partsBad (s .chip) (s .stored) (s .marks .dirty) (s .logs)) {n : ℕ}
-    (en : n ≡ cond x 0 (s .logs .traced))
+module _ (i : ℕ) {k : Current} {at : ℕ} (ek : k ≡ At i) (ea : at ≡ min i places) where
+  pub place-free : at < places → at ≡ currentPlace k
+  place-free h = rw (ek, lt-ltb i places (omega (arith, ea, h))) (omega (arith, ea, h))
+
+  pub place-none : places ≤ at → 0 ≡ currentPlace k
+  place-none h = rw (ek, le-ltb i places (omega (arith, ea, h)))
+
+-- A record that is not at its place is not the last used one.
+wrong-here :
+    (k : Current) (trace : Fixed TraceRecord) (q : Params) (at : ℕ) → trace .count ≤ places → at ≡ currentPlace k →
+    wrongFor k (trace .count) (getD (trace .places) at noRecord .params) q ≡ currentBad k trace q
+wrong-here Nothing trace q at h e = refl
+wrong-here (At i) trace q at h e = by-test (eqb (i + 1) (trace .count)) refl
   where
-    turned : badState s ≡ x || (some recordLong (used (traceOf s)) || currentBad (s .logs .current) s)
-    unfolding badState
-    turned =
-        rw ex
-        (in-turn
-        (windowBad (s .chip .window))
-        (pointerBad (s .chip .walk .pointer))
-        (tooLong (s .chip .decoder .params))
-        (some storedLong (s .stored))
-        (countBad (s .logs .traced))
-        (countBad (s .logs .warned))
-        (spanBad (s .marks .dirty))
-        (some recordLong (used (traceOf s)))
-        (currentBad (s .logs .current) s))
+    by-test :
+        (b : Bool) → eqb (i + 1) (trace .count) ≡ b →
+        wrongFor (At i) (trace .count) (getD (trace .places) at noRecord .params) q ≡ currentBad (At i) trace q
+    by-test true eb =
+        let g : i + 1 ≡ trace .count = eqb-true (i + 1) (trace .count) eb in
+        let l : i < 128 = omega (arith, g, h) in
+        ap (λ j. not (eqb (i + 1) (trace .count)) || differ (getD (trace .places) j noRecord .params) q) (e ∙ place-here i l)
+    by-test false eb = rw eb
 
-    traced-within : x ≡ false → s .logs .traced ≤ 128
-    traced-within e =
-        let counted = countBad (s .logs .traced) || (countBad (s .logs .warned) || spanBad (s .marks .dirty)) in
-        let e1 =
-        neither (windowBad (s .chip .window) || (pointerBad (s .chip .walk .pointer) || tooLong (s .chip .decoder .params)))
-        (some storedLong (s .stored) || counted) (sym ex ∙ e)
-        in
-        let e2 = neither (some storedLong (s .stored)) counted (e1 .1) in
-        ltb-false 128 (s .logs .traced) (neither (countBad (s .logs .traced)) (countBad (s .logs .warned) || spanBad (s .marks .dirty)) (e2 .1) .0)
+pub held-here :
+    (k : Current) (records : List TraceRecord) (at : ℕ) → Placed k → at ≡ currentPlace k →
+    heldFor k (getD records at noRecord .«pixel_bytes») ≡ pixelsHeld k records
+held-here Nothing records at h e = refl
+held-here (At i) records at h e = ap (λ j. getD records j noRecord .«pixel_bytes») (e ∙ place-here i h)
 
-    looked-at : {y : Bool} → x ≡ y → n ≡ cond y 0 (s .logs .traced)
-    looked-at e = en ∙ ap (λ y. cond y 0 (s .logs .traced)) e
+-- What stands at the place is stored back, changed where it is current.
+pub put-here :
+    (f : TraceRecord → TraceRecord) (k : Current) (records : List TraceRecord) (at : ℕ) (r : TraceRecord) → Placed k → at ≡ currentPlace k →
+    r ≡ ifCurrent f k (getD records at noRecord) → set records at r ≡ onCurrent f k records
+put-here f Nothing records at r h e er = ap (set records at) er ∙ set-getD records at noRecord
+put-here f (At i) records at r h e er = ap (set records at) er ∙ ap (λ j. set records j (f (getD records j noRecord))) (e ∙ place-here i h)
 
-    pub few : n ≤ 128
-    few = by-test x refl
-      where
-        by-test : (y : Bool) → x ≡ y → n ≤ 128
-        by-test true e = omega (arith, looked-at e)
-        by-test false e = omega (arith, looked-at e, traced-within e)
+-- The scan of the used records.
+module _ (records : List TraceRecord) (n : ℕ) {used : ℕ} (eu : used ≡ min n places) where
+  pub scan-start : length records ≡ places → Gather recordLong (take used records) false used false 0
+  scan-start h = gather-first (rw length-take (omega (arith, eu, h)))
 
-    abbrev rest : Bool
-    rest = some recordLong (used (traceOf s)) || currentBad (s .logs .current) s
-
-    abbrev wrongAt : ℕ → Bool
-    wrongAt at = wrongFor (s .logs .current) (s .logs .traced) (getD (s .records) at noRecord .params) (s .chip .decoder .params)
-
-    pub bad-told :
-        {b : Bool} {at : ℕ} → b ≡ x || some recordLong (take n (s .records)) → at ≡ currentSlot (s .logs .current) → b || wrongAt at ≡ badState s
-    bad-told {b} {at} eb ea = by-test x refl
-      where
-        by-test : (y : Bool) → x ≡ y → b || wrongAt at ≡ badState s
-        by-test true e =
-            ap (λ b. b || wrongAt at) (eb ∙ ap (λ x. x || some recordLong (take n (s .records))) e) ∙ sym (turned ∙ ap (λ x. x || rest) e)
-        by-test false e =
-            ap (λ b. b || wrongAt at)
-            (eb
-            ∙ ap (λ x. x || some recordLong (take n (s .records))) e
-            ∙ ap (λ n. some recordLong (take n (s .records))) (looked-at e))
-            ∙ ap (λ w. some recordLong (used (traceOf s)) || w) (wrong-here s (s .logs .current) at (traced-within e) ea)
-            ∙ sym (turned ∙ ap (λ x. x || rest) e)
+  pub scan-on :
+      {long : Bool} {j : ℕ} → Gather recordLong (take used records) false used long j → j < used →
+      Gather recordLong (take used records) false used (long || recordLong (getD records j noRecord)) (j + 1)
+  scan-on {long} {j} u h = rw (getD-take used records j noRecord h) at (gather-next u noRecord h)
 
 -- In a state that is not bad the current record is a place of the list.
-placed : (s : Controller) (k : Current) → s .logs .traced ≤ 128 → currentBad k s ≡ false → Placed k
-placed s Nothing h e = tt
-placed s (At i) h e =
-    let g : i + 1 ≡ s .logs .traced = eqb-true (i + 1) (s .logs .traced) (not-false (eqb (i + 1) (s .logs .traced)) (neither _ _ e .0)) in
+placed : (k : Current) (trace : Fixed TraceRecord) (q : Params) → trace .count ≤ places → currentBad k trace q ≡ false → Placed k
+placed Nothing trace q h e = tt
+placed (At i) trace q h e =
+    let g : i + 1 ≡ trace .count = eqb-true (i + 1) (trace .count) (not-false (eqb (i + 1) (trace .count)) (neither _ _ e .0)) in
     omega arith
 
-pub current-placed : (s : Controller) → badState s ≡ false → Placed (s .logs .current)
-current-placed s e = let f = fine s e in placed s (s .logs .current) (ltb-false 128 (s .logs .traced) (f .traced)) (f .current)
+pub current-placed : (s : St7789p3) → badState s ≡ false → Placed (s .controller .logs .current)
+current-placed s e =
+    placed (s .controller .logs .current) (traceOf s) (s .controller .chip .decoder .params)
+    (ltb-false places (s .controller .logs .traced) (clause s e 5)) (clause s e 8)
 
--- The refusal, from what was told of the state, the record at the current one's place, the counts and the lengths.
-pub refused :
-    (s : Controller) (cells n : ℕ) (b : Bool) {x at : ℕ} →
-    b || wrongFor (s .logs .current) (s .logs .traced) (getD (s .records) at noRecord .params) (s .chip .decoder .params) ≡ badState s →
-    at ≡ currentSlot (s .logs .current) →
-    x ≡ judgedFor b (s .logs .current) (s .logs .traced) (getD (s .records) at noRecord) (s .chip .decoder .params) (s .counts) cells n →
-    x ≡ transferRefusal s cells n
-unfolding transferRefusal countHigh
-refused s cells n b {x} {at} eb ea e = e ∙ ap (λ b. cond b 1 (held (heldFor (s .logs .current) (getD (s .records) at noRecord .«pixel_bytes»)))) eb ∙ by-test (badState s) refl
+module _
+    (s : St7789p3) {stored long : Bool} {used at : ℕ} (es : stored ≡ some storedLong (s .stored))
+    (eu : used ≡ min (s .controller .logs .traced) places) (el : long ≡ some recordLong (take used (s .records)))
+    (ea : at ≡ currentPlace (s .controller .logs .current))
   where
-    held : ℕ → ℕ
-    held m =
-        transferTests cells n
-        (countsHigh (s .counts .commands) (s .counts .«ramwr_count») (s .counts .«pixels_written») (s .counts .«dropped_params») m)
+    abbrev wrong : Bool
+    wrong =
+        wrongFor (s .controller .logs .current) (s .controller .logs .traced) (getD (s .records) at noRecord .params)
+        (s .controller .chip .decoder .params)
 
-    by-test :
-        (y : Bool) → badState s ≡ y →
-        cond (badState s) 1 (held (heldFor (s .logs .current) (getD (s .records) at noRecord .«pixel_bytes»))) ≡
-        cond (badState s) 1 (held (pixelsHeld (s .logs .current) (s .records)))
-    by-test true e = rw e
-    by-test false e = ap (λ m. cond (badState s) 1 (held m)) (held-here (s .logs .current) (s .records) at (current-placed s e) ea)
+    pub bad-told : some itself (clauses (s .controller) stored long wrong) ≡ badState s
+    unfolding badState
+    bad-told = by-test (countBad (s .controller .logs .traced)) refl
+      where
+        by-test :
+            (b : Bool) → countBad (s .controller .logs .traced) ≡ b →
+            some itself (clauses (s .controller) stored long wrong) ≡ some itself (clausesOf s)
+        by-test true e =
+            one-passes itself (clauses (s .controller) stored long wrong) 5 false refl e
+            ∙ sym (one-passes itself (clausesOf s) 5 false refl e)
+        by-test false e =
+            let h : s .controller .logs .traced ≤ 128 = ltb-false 128 (s .controller .logs .traced) e in
+            let n : used ≡ s .controller .logs .traced = omega (arith, eu) in
+            ap (λ b. some itself (clauses (s .controller) b long wrong)) es
+            ∙ ap₂ (λ r w. some itself (clauses (s .controller) (some storedLong (s .stored)) r w))
+            (el ∙ ap (λ n. some recordLong (take n (s .records))) n)
+            (wrong-here (s .controller .logs .current) (traceOf s) (s .controller .chip .decoder .params) at h ea)
+
+    pub refused :
+        (cells n : ℕ) {x : ℕ} → x ≡ judgedFor (s .controller) stored long (getD (s .records) at noRecord) cells n →
+        x ≡ transferRefusal s cells n
+    unfolding transferRefusal
+    refused cells n {x} e =
+        e
+        ∙ ap (λ b. row b (heldFor (s .controller .logs .current) (getD (s .records) at noRecord .«pixel_bytes»))) bad-told
+        ∙ by-test (badState s) refl
+      where
+        row : Bool → ℕ → ℕ
+        row b m = first (transferRow b cells n (counted (s .controller) m))
+
+        by-test :
+            (y : Bool) → badState s ≡ y →
+            row (badState s) (heldFor (s .controller .logs .current) (getD (s .records) at noRecord .«pixel_bytes»)) ≡
+            first (transferRow (badState s) cells n (countsOf s))
+        by-test true y = rw y
+        by-test false y = ap (row (badState s)) (held-here (s .controller .logs .current) (s .records) at (current-placed s y) ea)

@@ -1,29 +1,31 @@
--- Rules: 01, "Commands" and "Lint": beginning a command, and the CS release.
+-- Rules: 01, "Commands" and "Lint": beginning a command, and the CS release. What the controller becomes, and beside it what the lists
+-- keep.
 use Prim.Native.Nat.{ℕ, _+_}
 use mathlib.Core.Bool.{cond}
 use mathlib.Core.List.{List, map, foldl}
 use lib.Dec.{ltb, eqb}
-use Rattle.lists.specs.Fixed.{push, pushAll}
+use Rattle.lists.specs.Fixed.{Fixed, places, push, pushAll}
 use Rattle.lists.specs.Params.{noParams}
 use Rattle.lists.specs.declared.TraceRecord.{TraceRecord}
 use Rattle.lists.specs.declared.Warning.{Warning}
 use Rattle.lists.specs.declared.Current.the-variants.{Nothing, At}
 use Rattle.timing.specs.Lint.{brokenBy, rulesOf}
 use Rattle.chip.specs.Begin.{chipBegun, chipReleased}
-use Rattle.st7789.specs.Parts.{traceOf, warningsOf, withChip, withCounts, withTrace, withWarnings}
+use Rattle.st7789.specs.Parts.{traceOf, warningsOf, withController, withChip, withLogs, whole}
 use Rattle.st7789.specs.declared.Counts.{Counts}
+use Rattle.st7789.specs.declared.Logs.{Logs}
 use Rattle.st7789.specs.declared.Controller.{Controller}
+use Rattle.st7789.specs.declared.St7789p3.{St7789p3}
 
 -- The warning that c broke a rule at time t.
 abbrev pub warning : ℕ → ℕ → ℕ → Warning
 warning c t rule = record { at = t; rule = rule; cmd = c }
 
--- "lint": the rules that c breaks at time t, "In that order; kept while fewer than 128."
-abbrev pub linted : ℕ → ℕ → Controller → Controller
+-- "lint": a warning for each rule that c breaks at time t, "In that order; kept while fewer than 128."
+abbrev pub linted : ℕ → ℕ → St7789p3 → Fixed Warning
 linted c t s =
-    withWarnings
-    (pushAll 128 (warningsOf s) (map (warning c t) (rulesOf (brokenBy (s .chip .times) (s .chip .registers .colmod) c t))))
-    s
+    pushAll places (warningsOf s)
+    (map (warning c t) (rulesOf (brokenBy (s .controller .chip .times) (s .controller .chip .registers .colmod) c t)))
 
 -- "commands + 1", and with 2C "ramwr_count + 1"
 abbrev pub countsBegun : ℕ → Counts → Counts
@@ -39,19 +41,37 @@ countsBegun c n =
 abbrev pub begunRecord : ℕ → ℕ → TraceRecord
 begunRecord c t = record { at = t; «pixel_bytes» = 0; params = noParams; cmd = c }
 
--- "Then a trace record if fewer than 128 are used, else none is current."
-abbrev pub traced : ℕ → ℕ → Controller → Controller
-traced c t s =
-    withTrace (push 128 (traceOf s) (begunRecord c t)) (cond (ltb (s .logs .traced) 128) (At (s .logs .traced)) Nothing) s
+-- "Then a trace record if fewer than 128 are used, else none is current.": how many are used, and which is current. So many warnings are
+-- used by now.
+abbrev pub logsBegun : ℕ → Logs → Logs
+logsBegun warned l =
+    cond {A = Logs} (ltb (l .traced) places) (record { traced = l .traced + 1; warned = warned; current = At (l .traced) })
+    (record { traced = l .traced; warned = warned; current = Nothing })
 
--- "Beginning command c at time t, in this order: lint; commands + 1; .." The chip's part has the decoding and the effects.
-unfoldable pub begun : ℕ → ℕ → Controller → Controller
-begun c t s = traced c t (withChip (chipBegun c t (s .chip)) (withCounts (countsBegun c (s .counts)) (linted c t s)))
+-- The controller of it; the chip's part has "parameters emptied, not applied, c in force" and what follows, and the effects.
+abbrev pub controllerBegun : ℕ → ℕ → ℕ → Controller → Controller
+controllerBegun c t warned k =
+    whole (k .cfg) (k .power) (chipBegun c t (k .chip)) (countsBegun c (k .counts)) (k .marks .dirty) (logsBegun warned (k .logs))
+
+-- "Beginning command c at time t, in this order: lint; commands + 1; .. Then a trace record"
+unfoldable pub begun : ℕ → ℕ → St7789p3 → St7789p3
+begun c t s =
+    record {
+      controller = controllerBegun c t (linted c t s .count) (s .controller);
+      stored = s .stored;
+      records = push places (traceOf s) (begunRecord c t) .places;
+      warnings = linted c t s .places;
+    }
 
 -- "with dc low, each byte begins a command"
-abbrev pub begunAll : ℕ → List ℕ → Controller → Controller
+abbrev pub begunAll : ℕ → List ℕ → St7789p3 → St7789p3
 begunAll t bytes s = foldl (λ s c. begun c t s) s bytes
 
 -- "CS release: no command, .. no current record."
-unfoldable pub released : Controller → Controller
-released s = withTrace (traceOf s) Nothing (withChip (chipReleased (s .chip)) s)
+unfoldable pub controllerReleased : Controller → Controller
+controllerReleased k =
+    withLogs (record { traced = k .logs .traced; warned = k .logs .warned; current = Nothing }) (withChip (chipReleased (k .chip)) k)
+
+-- The panel of it.
+abbrev pub released : St7789p3 → St7789p3
+released s = withController (controllerReleased (s .controller)) s

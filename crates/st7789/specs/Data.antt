@@ -1,4 +1,4 @@
--- Rules: 01, "Commands", on data: in a run, for a command, or lost.
+-- Rules: 01, "Commands", on data: in a run, for a command, or lost. What the controller becomes, and beside it what the lists keep.
 use Prim.Native.Nat.{ℕ, _+_}
 use mathlib.Core.Bool.{Bool, true, cond, _&&_}
 use mathlib.Core.List.{List, []}
@@ -17,9 +17,10 @@ use Rattle.chip.specs.Apply.{chipTaken}
 use Rattle.chip.specs.declared.InForce.{InForce}
 use Rattle.chip.specs.declared.InForce.the-variants.{Code}
 use Rattle.chip.specs.declared.Chip.{Chip}
-use Rattle.st7789.specs.Parts.{withChip, withCounts, withDirty, withStored, withTrace}
+use Rattle.st7789.specs.Parts.{whole, withChip, withCounts}
 use Rattle.st7789.specs.declared.Counts.{Counts}
 use Rattle.st7789.specs.declared.Controller.{Controller}
+use Rattle.st7789.specs.declared.St7789p3.{St7789p3}
 
 -- What stands past the end of the trace's places.
 abbrev pub noRecord : TraceRecord
@@ -29,10 +30,6 @@ noRecord = record { at = 0; «pixel_bytes» = 0; params = record { bytes = []; c
 abbrev pub onCurrent : (TraceRecord → TraceRecord) → Current → List TraceRecord → List TraceRecord
 onCurrent f Nothing records = records
 onCurrent f (At i) records = set records i (f (getD records i noRecord))
-
--- The controller with other places of the trace.
-abbrev pub withRecords : List TraceRecord → Controller → Controller
-withRecords v s = withTrace (record { count = s .logs .traced; places = v }) (s .logs .current) s
 
 -- "the current record's pixel bytes grow by the length"
 abbrev pub morePixels : ℕ → TraceRecord → TraceRecord
@@ -44,7 +41,7 @@ moreParams bytes r = record { at = r .at; «pixel_bytes» = r .«pixel_bytes»; 
 
 -- The walk of a data segment over the controller's window.
 abbrev pub walkOver : Controller → List ℕ → Walked
-walkOver s bytes = walkedOn (s .chip .window) (s .chip .registers .madctl) (unwalked (s .chip .walk) (s .marks .dirty)) bytes
+walkOver k bytes = walkedOn (k .chip .window) (k .chip .registers .madctl) (unwalked (k .chip .walk) (k .marks .dirty)) bytes
 
 -- The chip with the walk put anew.
 abbrev pub walkedChip : Walk → Chip → Chip
@@ -70,37 +67,57 @@ droppedAdded n k =
       «dropped_params» = k .«dropped_params» + n;
     }
 
--- "Data in a run: the current record's pixel bytes grow by the length; pairs form pixels": walk, count and span are what these leave.
+-- "Data in a run: .. pairs form pixels": walk, count and span are what these leave.
 unfoldable pub ran : List ℕ → Controller → Controller
-ran bytes s =
-    withDirty (walkOver s bytes .dirty)
-    (withCounts (pixelsAdded (walkOver s bytes .pixels) (s .counts))
-    (withChip (walkedChip (walkOver s bytes .walk) (s .chip))
-    (withRecords (onCurrent (morePixels (length bytes)) (s .logs .current) (s .records)) s)))
+ran bytes k =
+    whole (k .cfg) (k .power) (walkedChip (walkOver k bytes .walk) (k .chip)) (pixelsAdded (walkOver k bytes .pixels) (k .counts))
+    (walkOver k bytes .dirty) (k .logs)
 
--- "A stored command stores its list on every data segment, an empty one too, so the last wins." Past the twelve places `set` stores nothing.
-abbrev pub storedAfter : ℕ → Params → List Stored → List Stored
-storedAfter c p l = set l (placeOf c) (record { present = true; params = p })
-
--- "bytes fill up to 14, the rest counted as dropped; the current record gets the taken ones; then the command applies"
--- "A stored command stores its list on every data segment"
+-- "bytes fill up to 14, the rest counted as dropped; .. then the command applies"
 unfoldable pub taken : ℕ → List ℕ → Controller → Controller
-taken c bytes s =
-    withStored (storedAfter c (filled (s .chip .decoder .params) bytes) (s .stored))
-    (withCounts (droppedAdded (excess (s .chip .decoder .params) (length bytes)) (s .counts))
-    (withChip (chipTaken c bytes (s .chip))
-    (withRecords (onCurrent (moreParams bytes) (s .logs .current) (s .records)) s)))
+taken c bytes k =
+    withCounts (droppedAdded (excess (k .chip .decoder .params) (length bytes)) (k .counts)) (withChip (chipTaken c bytes (k .chip)) k)
 
 -- "With no run and no command in force data is lost and uncounted."
-abbrev pub dataFor : InForce → List ℕ → Controller → Controller
-dataFor InForce.Nothing bytes s = s
-dataFor (Code c) bytes s = taken c bytes s
+abbrev pub takenFor : InForce → List ℕ → Controller → Controller
+takenFor InForce.Nothing bytes k = k
+takenFor (Code c) bytes k = taken c bytes k
 
--- "Data in a run", or "Data with a command and no run".
-abbrev pub dataIn : List ℕ → Controller → Controller
-dataIn bytes s = cond (s .chip .decoder .«in_pixels») (ran bytes s) (dataFor (s .chip .decoder .cmd) bytes s)
+-- "Data in a run", or "Data with a command and no run": the controller.
+abbrev pub controllerData : List ℕ → Controller → Controller
+controllerData bytes k = cond (k .chip .decoder .«in_pixels») (ran bytes k) (takenFor (k .chip .decoder .cmd) bytes k)
+
+-- The current record of a segment without a run: lost where no command is in force.
+abbrev pub listedFor : InForce → List ℕ → TraceRecord → TraceRecord
+listedFor InForce.Nothing bytes r = r
+listedFor (Code c) bytes r = moreParams bytes r
+
+-- "Data in a run", or "Data with a command and no run": the current record.
+abbrev pub recordData : List ℕ → Controller → TraceRecord → TraceRecord
+recordData bytes k r =
+    cond (k .chip .decoder .«in_pixels») (morePixels (length bytes) r) (listedFor (k .chip .decoder .cmd) bytes r)
+
+-- "A stored command stores its list on every data segment, an empty one too, so the last wins." Past the twelve places `set` stores nothing.
+abbrev pub storedFor : InForce → Params → List Stored → List Stored
+storedFor InForce.Nothing p l = l
+storedFor (Code c) p l = set l (placeOf c) (record { present = true; params = p })
+
+-- "Data in a run", or "Data with a command and no run": the stored lists.
+abbrev pub storedData : List ℕ → Controller → List Stored → List Stored
+storedData bytes k l =
+    cond (k .chip .decoder .«in_pixels») l (storedFor (k .chip .decoder .cmd) (filled (k .chip .decoder .params) bytes) l)
+
+-- "with dc high the bytes are data"
+unfoldable pub dataIn : List ℕ → St7789p3 → St7789p3
+dataIn bytes s =
+    record {
+      controller = controllerData bytes (s .controller);
+      stored = storedData bytes (s .controller) (s .stored);
+      records = onCurrent (recordData bytes (s .controller)) (s .controller .logs .current) (s .records);
+      warnings = s .warnings;
+    }
 
 -- What a segment stores: only data in a run does.
 abbrev pub storesIn : Bool → List ℕ → Controller → List Store
-storesIn dc bytes s =
-    cond (dc && s .chip .decoder .«in_pixels») (stores (s .chip .window) (s .chip .registers .madctl) (s .chip .walk) bytes) []
+storesIn dc bytes k =
+    cond (dc && k .chip .decoder .«in_pixels») (stores (k .chip .window) (k .chip .registers .madctl) (k .chip .walk) bytes) []

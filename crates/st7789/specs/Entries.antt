@@ -6,60 +6,117 @@ use lib.ListN.{length, replicate}
 use Rattle.pixels.specs.Run.{written}
 use Rattle.pixels.specs.declared.Span.{Span}
 use Rattle.pixels.specs.Spans.{allRows, zeroed}
+use Rattle.lists.specs.Fixed.{places}
 use Rattle.lists.specs.Params.{noParams}
 use Rattle.lists.specs.declared.Current.{Current}
-use Rattle.board.specs.Board.{switchedTo, unpowered, poweredTo, litTo, isBoardRail}
+use Rattle.board.specs.Board.{switchSet, unpowered, poweredTo, litTo, isBoardRail}
 use Rattle.board.specs.declared.BoardDomain.{BoardDomain}
+use Rattle.board.specs.declared.PanelConfig.{PanelConfig}
 use Rattle.chip.specs.Begin.{freshChip}
 use Rattle.status.specs.Numbers.{unlessRefused}
 use Rattle.status.specs.Tests.{memoryRefusal}
-use Rattle.st7789.specs.Parts.{withCfg, withPower, withDirty, withWarnings}
+use Rattle.st7789.specs.Parts.{withController, withCfg, withPower, withDirty, withLogs}
 use Rattle.st7789.specs.Command.{begunAll, released}
 use Rattle.st7789.specs.Data.{dataIn, storesIn}
 use Rattle.st7789.specs.Refusals.{transferRefusal, bareRefusal}
+use Rattle.st7789.specs.declared.PanelMemory.{PanelMemory}
+use Rattle.st7789.specs.declared.PanelMemory.the-variants.{Lent, Without}
 use Rattle.st7789.specs.declared.Taken.{Taken}
 use Rattle.st7789.specs.declared.Controller.{Controller}
+use Rattle.st7789.specs.declared.St7789p3.{St7789p3}
 
--- "Fresh: .. unpowered, .. level 0 scale 1 .., duty 0, span, counts and lists empty, nothing in force, the switch as asked"
-unfoldable pub freshController : Bool → Controller
-freshController shows =
+-- "Fresh: .. unpowered, .. level 0 scale 1 .., duty 0, span, counts .. empty, nothing in force, the switch as asked"
+unfoldable pub freshController : PanelConfig → Controller
+freshController cfg =
     record {
-      cfg = switchedTo shows;
+      cfg = cfg;
       power = unpowered;
       chip = freshChip;
       counts = record { commands = 0; «ramwr_count» = 0; «pixels_written» = 0; «dropped_params» = 0 };
       marks = record { dirty = Span.Nothing };
       logs = record { traced = 0; warned = 0; current = Current.Nothing };
-      stored = replicate 12 (record { present = false; params = noParams });
-      records = replicate 128 (record { at = 0; «pixel_bytes» = 0; params = noParams; cmd = 0 });
-      warnings = replicate 128 (record { at = 0; rule = 0; cmd = 0 });
     }
 
--- "Board rail: fresh with the switch kept, and all rows marked; the other six domains change nothing."
-abbrev pub railReset : Bool → Controller → Controller
-railReset rail s = cond rail (withDirty allRows (freshController (s .cfg .«invon_shows_ram»))) s
+-- "Fresh: .. lists empty": a controller beside empty lists.
+unfoldable pub emptyLists : Controller → St7789p3
+emptyLists k =
+    record {
+      controller = k;
+      stored = replicate 12 (record { present = false; params = noParams });
+      records = replicate places (record { at = 0; «pixel_bytes» = 0; params = noParams; cmd = 0 });
+      warnings = replicate places (record { at = 0; rule = 0; cmd = 0 });
+    }
+
+-- "Fresh": both.
+abbrev pub freshPanel : PanelConfig → St7789p3
+freshPanel cfg = emptyLists (freshController cfg)
 
 -- "Transfer: with dc low, each byte begins a command; with dc high the bytes are data. CS release, if asked, comes last."
-unfoldable pub moved : ℕ → Bool → List ℕ → Bool → Controller → Controller
+unfoldable pub moved : ℕ → Bool → List ℕ → Bool → St7789p3 → St7789p3
 moved t dc bytes cs s =
-    let r : Controller = cond dc (dataIn bytes s) (begunAll t bytes s) in
+    let r : St7789p3 = cond dc (dataIn bytes s) (begunAll t bytes s) in
     cond cs (released r) r
 
 -- The state after a transfer; refused, "A refusal gives back the state it got".
-unfoldable pub transferred : ℕ → Bool → List ℕ → Bool → ℕ → Controller → Controller
+unfoldable pub transferred : ℕ → Bool → List ℕ → Bool → ℕ → St7789p3 → St7789p3
 transferred t dc bytes cs cells s = unlessRefused (transferRefusal s cells (length bytes)) (moved t dc bytes cs s) s
 
 -- Memory after a transfer; refused, "every lent number as before".
-unfoldable pub transferMemory : Bool → List ℕ → List ℕ → Controller → List ℕ
+unfoldable pub transferMemory : Bool → List ℕ → List ℕ → St7789p3 → List ℕ
 transferMemory dc bytes memory s =
-    unlessRefused (transferRefusal s (length memory) (length bytes)) (written memory (storesIn dc bytes s)) memory
+    unlessRefused (transferRefusal s (length memory) (length bytes)) (written memory (storesIn dc bytes (s .controller))) memory
 
 -- "a transfer without memory, whose state equals the full one's"
-unfoldable pub bareTransferred : ℕ → Bool → List ℕ → Bool → Controller → Controller
+unfoldable pub bareTransferred : ℕ → Bool → List ℕ → Bool → St7789p3 → St7789p3
 bareTransferred t dc bytes cs s = unlessRefused (bareRefusal s (length bytes)) (moved t dc bytes cs s) s
 
+-- The one entry of both: the number, the state, and what is lent, which stays where no panel memory is.
+abbrev pub refusalWith : PanelMemory → St7789p3 → ℕ → ℕ → ℕ
+refusalWith Lent s cells bytes = transferRefusal s cells bytes
+refusalWith Without s cells bytes = bareRefusal s bytes
+
+abbrev pub transferredWith : PanelMemory → ℕ → Bool → List ℕ → Bool → ℕ → St7789p3 → St7789p3
+transferredWith Lent t dc bytes cs cells s = transferred t dc bytes cs cells s
+transferredWith Without t dc bytes cs cells s = bareTransferred t dc bytes cs s
+
+abbrev pub memoryWith : PanelMemory → Bool → List ℕ → List ℕ → St7789p3 → List ℕ
+memoryWith Lent dc bytes memory s = transferMemory dc bytes memory s
+memoryWith Without dc bytes memory s = memory
+
+-- "Setting power, .. never refused."
+abbrev pub poweredSet : Bool → Controller → Controller
+poweredSet on k = withPower (poweredTo on (k .power)) k
+
+-- "Setting .. `invon_shows_ram`, .. never refused."
+abbrev pub showsSet : Bool → Controller → Controller
+showsSet shows k = withCfg (switchSet shows (k .cfg)) k
+
+-- "Setting .. brightness, .. never refused."
+abbrev pub brightnessSet : ℕ → ℕ → ℕ → Controller → Controller
+brightnessSet level scale duty k = withPower (litTo level scale duty (k .power)) k
+
+-- "Mark-all makes the span 0 to 319."
+abbrev pub allMarked : Controller → Controller
+allMarked k = withDirty allRows k
+
+-- "taking warnings are never refused.": they are handed over with their count, and none is left.
+abbrev pub warningsTaken : St7789p3 → Taken
+warningsTaken s =
+    let logs = s .controller .logs in
+    record {
+      panel =
+          withController
+          (withLogs (record { traced = logs .traced; warned = 0; current = logs .current }) (s .controller)) s;
+      warnings = s .warnings;
+      count = logs .warned;
+    }
+
+-- "Board rail: fresh with the switch kept, and all rows marked; the other six domains change nothing." The whole configuration is kept.
+abbrev pub railReset : Bool → St7789p3 → St7789p3
+railReset rail s = cond rail (emptyLists (allMarked (freshController (s .controller .cfg)))) s
+
 -- "Board rail: fresh with the switch kept, and all rows marked"; refused, "A refusal gives back the state it got".
-unfoldable pub resetState : BoardDomain → ℕ → Controller → Controller
+unfoldable pub resetState : BoardDomain → ℕ → St7789p3 → St7789p3
 resetState domain cells s = unlessRefused (memoryRefusal cells) (railReset (isBoardRail domain) s) s
 
 -- "Board rail: fresh", so "memory zero"; refused, "every lent number as before".
@@ -69,28 +126,3 @@ resetMemory domain memory = unlessRefused (memoryRefusal (length memory)) (cond 
 -- A panel made over lent memory: "Fresh: memory zero"; refused, "every lent number as before".
 unfoldable pub newMemory : List ℕ → List ℕ
 newMemory memory = unlessRefused (memoryRefusal (length memory)) (zeroed memory) memory
-
--- "Setting power, .. never refused."
-abbrev pub poweredSet : Bool → Controller → Controller
-poweredSet on s = withPower (poweredTo on (s .power)) s
-
--- "Setting .. `invon_shows_ram`, .. never refused."
-abbrev pub showsSet : Bool → Controller → Controller
-showsSet shows s = withCfg (switchedTo shows) s
-
--- "Setting .. brightness, .. never refused."
-abbrev pub brightnessSet : ℕ → ℕ → ℕ → Controller → Controller
-brightnessSet level scale duty s = withPower (litTo level scale duty (s .power)) s
-
--- "Mark-all makes the span 0 to 319."
-abbrev pub allMarked : Controller → Controller
-allMarked s = withDirty allRows s
-
--- "taking warnings are never refused.": they are handed over with their count, and none is left.
-abbrev pub warningsTaken : Controller → Taken
-warningsTaken s =
-    record {
-      controller = withWarnings (record { count = 0; places = s .warnings }) s;
-      warnings = s .warnings;
-      count = s .logs .warned;
-    }

@@ -1,69 +1,48 @@
--- Rules: the words in which the others are said: the controller's lists as fixed lists, and the controller with one part changed.
+-- Rules: the words in which the others are said: the panel's lists as fixed lists, and the panel or its controller with one part changed.
 -- None stands for a sentence of 01.
-use mathlib.Core.List.{List}
 use Rattle.pixels.specs.declared.Span.{Span}
 use Rattle.lists.specs.Fixed.{Fixed}
-use Rattle.lists.specs.declared.Stored.{Stored}
 use Rattle.lists.specs.declared.TraceRecord.{TraceRecord}
 use Rattle.lists.specs.declared.Warning.{Warning}
-use Rattle.lists.specs.declared.Current.{Current}
 use Rattle.chip.specs.declared.Chip.{Chip}
 use Rattle.board.specs.declared.PanelConfig.{PanelConfig}
 use Rattle.board.specs.declared.Power.{Power}
 use Rattle.st7789.specs.declared.Counts.{Counts}
 use Rattle.st7789.specs.declared.Logs.{Logs}
 use Rattle.st7789.specs.declared.Controller.{Controller}
+use Rattle.st7789.specs.declared.St7789p3.{St7789p3}
 
 -- The trace and the warnings: how many are used, and all places.
-abbrev pub traceOf : Controller → Fixed TraceRecord
-traceOf s = record { count = s .logs .traced; places = s .records }
+abbrev pub traceOf : St7789p3 → Fixed TraceRecord
+traceOf s = record { count = s .controller .logs .traced; places = s .records }
 
-abbrev pub warningsOf : Controller → Fixed Warning
-warningsOf s = record { count = s .logs .warned; places = s .warnings }
+abbrev pub warningsOf : St7789p3 → Fixed Warning
+warningsOf s = record { count = s .controller .logs .warned; places = s .warnings }
+
+-- The panel with another controller, its lists as they are.
+abbrev pub withController : Controller → St7789p3 → St7789p3
+withController k s = record { controller = k; stored = s .stored; records = s .records; warnings = s .warnings }
 
 -- The controller of its parts.
-abbrev pub whole :
-    PanelConfig → Power → Chip → Counts → Span → Logs → List Stored → List TraceRecord → List Warning → Controller
-whole cfg power chip counts dirty logs stored records warnings =
-    record {
-      cfg = cfg;
-      power = power;
-      chip = chip;
-      counts = counts;
-      marks = record { dirty = dirty };
-      logs = logs;
-      stored = stored;
-      records = records;
-      warnings = warnings;
-    }
+abbrev pub whole : PanelConfig → Power → Chip → Counts → Span → Logs → Controller
+whole cfg power chip counts dirty logs =
+    record { cfg = cfg; power = power; chip = chip; counts = counts; marks = record { dirty = dirty }; logs = logs }
 
 -- The controller with one part put anew, each named after the part.
 abbrev pub withCfg : PanelConfig → Controller → Controller
-withCfg v s = whole v (s .power) (s .chip) (s .counts) (s .marks .dirty) (s .logs) (s .stored) (s .records) (s .warnings)
+withCfg v k = whole v (k .power) (k .chip) (k .counts) (k .marks .dirty) (k .logs)
 
 abbrev pub withPower : Power → Controller → Controller
-withPower v s = whole (s .cfg) v (s .chip) (s .counts) (s .marks .dirty) (s .logs) (s .stored) (s .records) (s .warnings)
+withPower v k = whole (k .cfg) v (k .chip) (k .counts) (k .marks .dirty) (k .logs)
 
 abbrev pub withChip : Chip → Controller → Controller
-withChip v s = whole (s .cfg) (s .power) v (s .counts) (s .marks .dirty) (s .logs) (s .stored) (s .records) (s .warnings)
+withChip v k = whole (k .cfg) (k .power) v (k .counts) (k .marks .dirty) (k .logs)
 
 abbrev pub withCounts : Counts → Controller → Controller
-withCounts v s = whole (s .cfg) (s .power) (s .chip) v (s .marks .dirty) (s .logs) (s .stored) (s .records) (s .warnings)
+withCounts v k = whole (k .cfg) (k .power) (k .chip) v (k .marks .dirty) (k .logs)
 
 abbrev pub withDirty : Span → Controller → Controller
-withDirty v s = whole (s .cfg) (s .power) (s .chip) (s .counts) v (s .logs) (s .stored) (s .records) (s .warnings)
+withDirty v k = whole (k .cfg) (k .power) (k .chip) (k .counts) v (k .logs)
 
-abbrev pub withStored : List Stored → Controller → Controller
-withStored v s = whole (s .cfg) (s .power) (s .chip) (s .counts) (s .marks .dirty) (s .logs) v (s .records) (s .warnings)
-
-abbrev pub withTrace : Fixed TraceRecord → Current → Controller → Controller
-withTrace v current s =
-    whole (s .cfg) (s .power) (s .chip) (s .counts) (s .marks .dirty)
-    (record { traced = v .count; warned = s .logs .warned; current = current })
-    (s .stored) (v .places) (s .warnings)
-
-abbrev pub withWarnings : Fixed Warning → Controller → Controller
-withWarnings v s =
-    whole (s .cfg) (s .power) (s .chip) (s .counts) (s .marks .dirty)
-    (record { traced = s .logs .traced; warned = v .count; current = s .logs .current })
-    (s .stored) (s .records) (v .places)
+abbrev pub withLogs : Logs → Controller → Controller
+withLogs v k = whole (k .cfg) (k .power) (k .chip) (k .counts) (k .marks .dirty) v

@@ -1,32 +1,31 @@
--- Workshop: how the code looks at the current record, at a place that the list always has, and the logs of a begun command.
+-- Workshop: how the code looks at the current record, at a place that the list always has, at the stored lists and at lent memory.
 use Prim.Native.Nat.{ℕ, _+_}
 use mathlib.Core.Bool.{Bool, false, cond, not, _||_}
 use mathlib.Core.List.{List}
 use lib.Dec.{ltb, eqb}
-use Rattle.geometry.specs.Bounds.{windowBad, pointerBad}
-use Rattle.pixels.specs.Spans.{spanBad}
-use Rattle.pixels.specs.declared.Span.{Span}
-use Rattle.status.specs.Tests.{countsHigh, transferTests}
-use Rattle.lists.specs.Entries.{some, storedLong}
-use Rattle.lists.specs.Params.{tooLong, differ}
-use Rattle.lists.specs.declared.Stored.{Stored}
+use Rattle.pixels.specs.Run.{Store, written}
+use Rattle.lists.specs.Fixed.{places}
+use Rattle.lists.specs.Entries.{some, placeOf}
+use Rattle.lists.specs.Params.{differ}
 use Rattle.lists.specs.declared.Params.{Params}
 use Rattle.lists.specs.declared.TraceRecord.{TraceRecord}
 use Rattle.lists.specs.declared.Current.{Current}
 use Rattle.lists.specs.declared.Current.the-variants.{Nothing, At}
-use Rattle.chip.specs.declared.Chip.{Chip}
-use Rattle.st7789.specs.Refusals.{countBad}
-use Rattle.st7789.specs.declared.Counts.{Counts}
-use Rattle.st7789.specs.declared.Logs.{Logs}
+use Rattle.chip.specs.Begin.{chipBegun}
+use Rattle.chip.specs.declared.InForce.{InForce}
+use Rattle.chip.specs.declared.InForce.the-variants.{Code}
+use Rattle.status.specs.Tests.{first, transferRow}
+use Rattle.st7789.specs.Parts.{withChip, withCounts}
+use Rattle.st7789.specs.Command.{countsBegun}
+use Rattle.st7789.specs.Refusals.{itself, clauses, counted}
+use Rattle.st7789.specs.declared.PanelMemory.{PanelMemory}
+use Rattle.st7789.specs.declared.PanelMemory.the-variants.{Lent, Without}
+use Rattle.st7789.specs.declared.Controller.{Controller}
 
--- The place of entry n, the first one where there is none.
-abbrev pub slotOf : ℕ → ℕ
-slotOf n = cond (ltb n 128) n 0
-
--- The place of the current record, the first one where none is current.
-abbrev pub currentSlot : Current → ℕ
-currentSlot Nothing = 0
-currentSlot (At i) = slotOf i
+-- The place of the current record, the first one where there is none.
+abbrev pub currentPlace : Current → ℕ
+currentPlace Nothing = 0
+currentPlace (At i) = cond (ltb i places) i 0
 
 -- Whether the record is not the last of n, or its parameters p differ from those in force, q.
 abbrev pub wrongFor : Current → ℕ → Params → Params → Bool
@@ -43,25 +42,38 @@ abbrev pub ifCurrent : (TraceRecord → TraceRecord) → Current → TraceRecord
 ifCurrent f Nothing r = r
 ifCurrent f (At i) r = f r
 
--- BAD_STATE but for the records.
-abbrev pub partsBad : Chip → List Stored → Span → Logs → Bool
-partsBad chip stored dirty logs =
-    (windowBad (chip .window) || (pointerBad (chip .walk .pointer) || tooLong (chip .decoder .params))) ||
-    (some storedLong stored || (countBad (logs .traced) || (countBad (logs .warned) || spanBad dirty)))
+-- The refusal of a transfer, by what was told of the lists and by the record that stands at the current one's place.
+abbrev pub judgedFor : Controller → Bool → Bool → TraceRecord → ℕ → ℕ → ℕ
+judgedFor k stored records r cells bytes =
+    first
+    (transferRow
+    (some itself (clauses k stored records (wrongFor (k .logs .current) (k .logs .traced) (r .params) (k .chip .decoder .params))))
+    cells bytes
+    (counted k (heldFor (k .logs .current) (r .«pixel_bytes»))))
 
--- The refusal of a transfer: by what else is bad, the record at the current one's place, counts and lengths.
-abbrev pub judgedFor : Bool → Current → ℕ → TraceRecord → Params → Counts → ℕ → ℕ → ℕ
-judgedFor bad k n r q counts cells bytes =
-    cond (bad || wrongFor k n (r .params) q) 1
-    (transferTests cells bytes
-    (countsHigh (counts .commands) (counts .«ramwr_count») (counts .«pixels_written») (counts .«dropped_params»)
-    (heldFor k (r .«pixel_bytes»))))
+-- The place of the stored command in force, past the twelve where there is none.
+abbrev pub placeFor : InForce → ℕ
+placeFor InForce.Nothing = 12
+placeFor (Code c) = placeOf c
 
--- A record more, which is current, or none where there is no room.
-abbrev pub logsBegun : Logs → Logs
-logsBegun l =
-    record {
-      traced = cond (ltb (l .traced) 128) (l .traced + 1) (l .traced);
-      warned = l .warned;
-      current = cond (ltb (l .traced) 128) (At (l .traced)) Nothing;
-    }
+-- The place that data is stored at; in a run there is none.
+abbrev pub storedPlace : Controller → ℕ
+storedPlace k = cond (k .chip .decoder .«in_pixels») 12 (placeFor (k .chip .decoder .cmd))
+
+-- What a begun command leaves of the controller but for the logs.
+abbrev pub commandBegun : ℕ → ℕ → Controller → Controller
+commandBegun c t k = withCounts (countsBegun c (k .counts)) (withChip (chipBegun c t (k .chip)) k)
+
+-- How much of n numbers a transfer takes as lent, and how many of them it may store to.
+abbrev pub cellsFor : PanelMemory → ℕ → ℕ
+cellsFor Lent n = n
+cellsFor Without n = 76800
+
+abbrev pub endFor : PanelMemory → ℕ → ℕ
+endFor Lent n = n
+endFor Without n = 0
+
+-- Lent numbers after stores, which go nowhere without panel memory.
+abbrev pub storedTo : PanelMemory → List ℕ → List Store → List ℕ
+storedTo Lent memory ss = written memory ss
+storedTo Without memory ss = memory

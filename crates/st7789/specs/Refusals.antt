@@ -1,72 +1,89 @@
 -- Rules: 01's table of refusals, when each is given.
 use Prim.Native.Nat.{ℕ, _+_}
-use mathlib.Core.Path.{_≡_}
-use mathlib.Core.Bool.{Bool, false, cond, not, _||_}
-use mathlib.Core.List.{List}
+use mathlib.Core.Bool.{Bool, false, not, _||_}
+use mathlib.Core.List.{List, [], _∷_}
 use lib.ListN.{getD}
 use lib.Dec.{ltb, eqb}
-use Rattle.lists.specs.Fixed.{used}
+use Rattle.lists.specs.Fixed.{Fixed, places, used}
 use Rattle.lists.specs.Entries.{some, storedLong, recordLong}
 use Rattle.lists.specs.Params.{tooLong, differ}
 use Rattle.geometry.specs.Bounds.{windowBad, pointerBad}
 use Rattle.pixels.specs.Spans.{spanBad}
-use Rattle.status.specs.Tests.{countsHigh, transferTests}
+use Rattle.status.specs.Tests.{first, transferRow, bareRow}
+use Rattle.lists.specs.declared.Params.{Params}
 use Rattle.lists.specs.declared.TraceRecord.{TraceRecord}
 use Rattle.lists.specs.declared.Current.{Current}
 use Rattle.lists.specs.declared.Current.the-variants.{Nothing, At}
 use Rattle.st7789.specs.Parts.{traceOf}
 use Rattle.st7789.specs.Data.{noRecord}
 use Rattle.st7789.specs.declared.Controller.{Controller}
+use Rattle.st7789.specs.declared.St7789p3.{St7789p3}
 
 -- "trace or warnings count above 128"
 abbrev pub countBad : ℕ → Bool
-countBad n = ltb 128 n
+countBad n = ltb places n
 
 -- "a current trace record isn't the last used one, or its parameters differ from those in force"
-abbrev pub currentBad : Current → Controller → Bool
-currentBad Nothing s = false
-currentBad (At i) s =
-    not (eqb (i + 1) (s .logs .traced)) || differ (getD (s .records) i noRecord .params) (s .chip .decoder .params)
+abbrev pub currentBad : Current → Fixed TraceRecord → Params → Bool
+currentBad Nothing trace inForce = false
+currentBad (At i) trace inForce = not (eqb (i + 1) (trace .count)) || differ (getD (trace .places) i noRecord .params) inForce
 
--- BAD_STATE, each clause: "a window corner or pointer coordinate is above 319; .. or its parameters differ from those in force"
-unfoldable pub badState : Controller → Bool
-badState s =
-    windowBad (s .chip .window) ||
-    (pointerBad (s .chip .walk .pointer) ||
-    (tooLong (s .chip .decoder .params) ||
-    (some storedLong (s .stored) ||
-    (countBad (s .logs .traced) ||
-    (countBad (s .logs .warned) ||
-    (some recordLong (used (traceOf s)) || (spanBad (s .marks .dirty) || currentBad (s .logs .current) s)))))))
+-- BAD_STATE, clause by clause in 01's order. What is asked of the stored lists, the used records and the current record comes in.
+abbrev pub clauses : Controller → Bool → Bool → Bool → List Bool
+clauses k stored records current =
+    -- "a window corner
+    windowBad (k .chip .window)
+    -- or pointer coordinate is above 319;
+    ∷ pointerBad (k .chip .walk .pointer)
+    -- a parameter list (in force,
+    ∷ tooLong (k .chip .decoder .params)
+    -- stored,
+    ∷ stored
+    -- or in a used trace record) is longer than 14;
+    ∷ records
+    -- trace
+    ∷ countBad (k .logs .traced)
+    -- or warnings count above 128;
+    ∷ countBad (k .logs .warned)
+    -- the dirty span has first above last, or last above 319;
+    ∷ spanBad (k .marks .dirty)
+    -- a current trace record isn't the last used one, or its parameters differ from those in force"
+    ∷ current
+    ∷ []
+
+-- The clauses of a panel.
+abbrev pub clausesOf : St7789p3 → List Bool
+clausesOf s =
+    clauses (s .controller) (some storedLong (s .stored)) (some recordLong (used (traceOf s)))
+    (currentBad (s .controller .logs .current) (traceOf s) (s .controller .chip .decoder .params))
+
+-- A clause holds if it is true.
+abbrev pub itself : Bool → Bool
+itself b = b
+
+-- BAD_STATE: some clause holds.
+unfoldable pub badState : St7789p3 → Bool
+badState s = some itself (clausesOf s)
 
 -- "the current trace record's pixel bytes", 0 where none is current.
 abbrev pub pixelsHeld : Current → List TraceRecord → ℕ
 pixelsHeld Nothing records = 0
 pixelsHeld (At i) records = getD records i noRecord .«pixel_bytes»
 
--- COUNT_HIGH: "before a transfer, one of commands, ramwr_count, pixels_written, dropped_params, or the current trace record's pixel bytes
--- is above 2^63"
-unfoldable pub countHigh : Controller → Bool
-countHigh s =
-    countsHigh (s .counts .commands) (s .counts .«ramwr_count») (s .counts .«pixels_written») (s .counts .«dropped_params»)
-    (pixelsHeld (s .logs .current) (s .records))
+-- What COUNT_HIGH looks at: "one of commands, ramwr_count, pixels_written, dropped_params, or the current trace record's pixel bytes",
+-- which come in.
+abbrev pub counted : Controller → ℕ → List ℕ
+counted k held =
+    k .counts .commands ∷ k .counts .«ramwr_count» ∷ k .counts .«pixels_written» ∷ k .counts .«dropped_params» ∷ held ∷ []
 
--- "Tests run in number order": BAD_STATE, BAD_MEMORY, TOO_LONG, COUNT_HIGH for a transfer.
-unfoldable pub transferRefusal : Controller → ℕ → ℕ → ℕ
-transferRefusal s cells bytes = cond (badState s) 1 (transferTests cells bytes (countHigh s))
+-- The counts of a panel.
+abbrev pub countsOf : St7789p3 → List ℕ
+countsOf s = counted (s .controller) (pixelsHeld (s .controller .logs .current) (s .records))
 
--- The same without memory: "each entry making those that concern its arguments".
-unfoldable pub bareRefusal : Controller → ℕ → ℕ
-bareRefusal s bytes = cond (badState s) 1 (cond (ltb 65536 bytes) 4 (cond (countHigh s) 5 0))
+-- The refusal of a transfer.
+unfoldable pub transferRefusal : St7789p3 → ℕ → ℕ → ℕ
+transferRefusal s cells bytes = first (transferRow (badState s) cells bytes (countsOf s))
 
--- Not BAD_STATE, clause by clause: what the laws say of a good state.
-pub record Fine (s : Controller) : Type 0 where
-  pub window : windowBad (s .chip .window) ≡ false
-  pub pointer : pointerBad (s .chip .walk .pointer) ≡ false
-  pub params : tooLong (s .chip .decoder .params) ≡ false
-  pub stored : some storedLong (s .stored) ≡ false
-  pub traced : countBad (s .logs .traced) ≡ false
-  pub warned : countBad (s .logs .warned) ≡ false
-  pub records : some recordLong (used (traceOf s)) ≡ false
-  pub span : spanBad (s .marks .dirty) ≡ false
-  pub current : currentBad (s .logs .current) s ≡ false
+-- The refusal of a transfer without memory.
+unfoldable pub bareRefusal : St7789p3 → ℕ → ℕ
+bareRefusal s bytes = first (bareRow (badState s) bytes (countsOf s))

@@ -1,96 +1,119 @@
-// Data: pixels of a run, parameters of a command, or lost.
+// Data: pixels of a run, parameters of a command, or lost. What becomes of the controller, and beside it what the lists keep.
 ghost use mathlib.Core.Path.{_≡_};
-ghost use mathlib.Core.Bool.{true, cond};
-ghost use Prim.Native.Nat.{_<_};
+ghost use mathlib.Core.Bool.{true};
+ghost use Prim.Native.Nat.{_+_, _^_, _<_};
 ghost use lib.ListN.{length};
-ghost use lib.Dec.{ltb};
-ghost use Rattle.lists.specs.Entries.{placeOf};
 ghost use Rattle.pixels.specs.Run.{written};
-ghost use Rattle.st7789.specs.Data.{dataIn, storesIn};
-ghost use Rattle.st7789.specs.Room.{Room};
+ghost use Rattle.st7789.specs.Data.{recordData, controllerData, storesIn};
+ghost use Rattle.st7789.specs.Places.{heldFor, ifCurrent, storedPlace};
+ghost use Rattle.st7789.specs.Room.{Countable};
 use crate::Controller;
 use crate::Marks;
-use crate::current::grown;
-use crate::current::noted;
-use crate::current::place;
 use chip::InForce;
-use lists::Params;
+use lists::Current;
 use lists::Stored;
-
-// The place of a stored command, the first one for any other.
-fn stored_slot(c: u8) -> usize
-    ensures { λ r. ⌜ r ≡ cond (ltb (placeOf c) 12) (placeOf c) 0 ⌝ }
-    ensures { λ r. ⌜ r < 12 ⌝ }
-{
-    let at = lists::stored_place(c);
-    if at < 12 {
-        return at;
-    }
-    0
-}
-
-// What stands there after a data segment: the command's list, the old one where the command is not stored.
-fn stored_entry(c: u8, params: Params, old: Stored) -> Stored
-    ensures { λ r. ⌜ r ≡ cond (ltb (placeOf c) 12) (record { present = true; params = params }) old ⌝ }
-{
-    if lists::stored_place(c) < 12 {
-        return Stored {
-            present: true,
-            params,
-        };
-    }
-    old
-}
+use lists::TraceRecord;
 
 impl Controller {
-    // Pixels in a run, parameters for a command in force, or lost. What changes is stored in place.
+    // What stands at the current record's place after data, changed where it is current.
+    pub(crate) fn noted(self, old: TraceRecord, bytes: &[u8]) -> TraceRecord
+        requires { ⌜ heldFor (self .logs .current) (old .«pixel_bytes») + length (now bytes) < 2 ^ 64 ⌝ }
+        ensures { λ r. ⌜ r ≡ ifCurrent (recordData (now (bytes .entry)) self) (self .logs .current) old ⌝ }
+    {
+        let logs = self.logs;
+        let current = logs.current;
+        match current {
+            Current::Nothing => old,
+            Current::At(i) => {
+                let decoder = self.chip.decoder;
+                if decoder.in_pixels {
+                    return TraceRecord {
+                        pixel_bytes: old.pixel_bytes + bytes.len() as u64,
+                        ..old
+                    };
+                }
+                let cmd = decoder.cmd;
+                match cmd {
+                    InForce::Nothing => old,
+                    InForce::Code(c) => {
+                        let listed = old.params;
+                        let params = listed.append(bytes);
+                        TraceRecord { params, ..old }
+                    }
+                }
+            }
+        }
+    }
+
+    // The place of the stored command that data goes to, 12 where there is none.
+    pub(crate) fn stored_place(self) -> usize
+        ensures { λ r. ⌜ r ≡ storedPlace self ⌝ }
+    {
+        let decoder = self.chip.decoder;
+        if decoder.in_pixels {
+            return 12;
+        }
+        let cmd = decoder.cmd;
+        match cmd {
+            InForce::Nothing => 12,
+            InForce::Code(c) => lists::stored_place(c),
+        }
+    }
+
+    // The list in force, as a stored command keeps it.
+    pub(crate) fn stored_list(self) -> Stored
+        ensures { λ r. ⌜ r ≡ record { present = true; params = self .chip .decoder .params } ⌝ }
+    {
+        let decoder = self.chip.decoder;
+        let params = decoder.params;
+        Stored {
+            present: true,
+            params,
+        }
+    }
+
+    // Pixels in a run, parameters for a command in force, or lost.
     pub(crate) fn data(mut self, bytes: &[u8], memory: &mut [u16]) -> Controller
-        requires { ⌜ Room (length (now bytes)) self ⌝ }
-        ensures { λ r. ⌜ r ≡ dataIn (now (bytes .entry)) self ⌝ }
+        requires { ⌜ Countable (length (now bytes)) (self .counts) ⌝ }
+        ensures { λ r. ⌜ r ≡ controllerData (now (bytes .entry)) self ⌝ }
         ensures { λ r. ⌜ now (memory .exit) ≡ written (now (memory .entry)) (storesIn true (now (bytes .entry)) self) ⌝ }
     {
-        let mut chip = self.chip;
-        let decoder = chip.decoder;
-        let at = place(self.logs);
+        let old_chip = self.chip;
+        let decoder = old_chip.decoder;
         if decoder.in_pixels {
-            let marks = self.marks;
-            let dirty = marks.dirty;
+            let old_marks = self.marks;
+            let old_dirty = old_marks.dirty;
             let run = engine::write_pixels(
-                chip.window,
-                chip.registers.madctl,
-                chip.walk,
-                dirty,
+                old_chip.window,
+                old_chip.registers.madctl,
+                old_chip.walk,
+                old_dirty,
                 bytes,
                 memory,
             );
             let walk = run.walk;
             let dirty = run.dirty;
             let marks = Marks { dirty };
-            let record = grown(self.logs, self.records[at], bytes.len() as u64);
+            let mut chip = old_chip;
             chip.walk = walk;
             self.chip = chip;
-            self.counts.pixels_written = self.counts.pixels_written + run.pixels;
+            let pixels = self.counts.pixels_written + run.pixels;
+            self.counts.pixels_written = pixels;
             self.marks = marks;
-            self.records[at] = record;
-        } else {
-            let cmd = decoder.cmd;
-            match cmd {
-                InForce::Nothing => {}
-                InForce::Code(c) => {
-                    let params = decoder.params;
-                    let lost = params.excess(bytes.len());
-                    let list = params.append(bytes);
-                    let taken = chip.take(c, bytes);
-                    let record = noted(self.logs, self.records[at], bytes);
-                    let slot = stored_slot(c);
-                    let entry = stored_entry(c, list, self.stored[slot]);
-                    self.chip = taken;
-                    self.counts.dropped_params = self.counts.dropped_params + lost;
-                    self.records[at] = record;
-                    self.stored[slot] = entry;
-                }
+            return self;
+        }
+        let cmd = decoder.cmd;
+        match cmd {
+            InForce::Nothing => self,
+            InForce::Code(c) => {
+                let params = decoder.params;
+                let lost = params.excess(bytes.len());
+                let chip = old_chip.take(c, bytes);
+                self.chip = chip;
+                let dropped = self.counts.dropped_params + lost;
+                self.counts.dropped_params = dropped;
+                self
             }
         }
-        self
     }
 }

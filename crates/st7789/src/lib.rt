@@ -1,9 +1,9 @@
-// The ST7789P3 controller: the chip with its lists, its counts, and the span of rows to publish. Panel memory is lent.
-ghost use mathlib.Core.Path.{_≡_};
+// The ST7789P3 panel: a small controller, and the lists flat beside it. Panel memory is lent.
 use board::PanelConfig;
 use board::Power;
 use chip::Chip;
 use lists::Current;
+use lists::PLACES;
 use lists::Stored;
 use lists::TraceRecord;
 use lists::Warning;
@@ -13,9 +13,10 @@ use status::Status;
 mod command;
 mod current;
 mod data;
-mod entries;
+mod fresh;
 mod refusals;
 mod switches;
+mod transfer;
 
 pub struct Counts {
     pub commands: u64,
@@ -36,7 +37,7 @@ pub struct Marks {
     pub dirty: Span,
 }
 
-// The lists lie flat, so that a store changes them in place.
+// Everything but the lists.
 pub struct Controller {
     pub cfg: PanelConfig,
     pub power: Power,
@@ -44,24 +45,29 @@ pub struct Controller {
     pub counts: Counts,
     pub marks: Marks,
     pub logs: Logs,
+}
+
+// The lists lie flat, so that a store changes them in place.
+pub struct St7789p3 {
+    pub controller: Controller,
     pub stored: [Stored; 12],
-    pub records: [TraceRecord; 128],
-    pub warnings: [Warning; 128],
+    pub records: [TraceRecord; PLACES],
+    pub warnings: [Warning; PLACES],
+}
+
+// Whether a transfer comes with panel memory.
+pub enum PanelMemory {
+    Lent,
+    Without,
 }
 
 pub struct Answer {
-    pub controller: Controller,
+    pub panel: St7789p3,
     pub status: Status,
 }
 
 pub struct Taken {
-    pub controller: Controller,
-    pub warnings: [Warning; 128],
+    pub panel: St7789p3,
+    pub warnings: [Warning; PLACES],
     pub count: u8,
-}
-
-pub(crate) fn wide(n: u8) -> usize
-    ensures { λ r. ⌜ r ≡ n ⌝ }
-{
-    n as usize
 }

@@ -1,95 +1,100 @@
-// The refusal tests, in 01's order.
+// The refusal tests of a panel, in 01's order.
 ghost use mathlib.Core.Path.{_≡_};
-ghost use mathlib.Core.Bool.{cond, _||_};
-ghost use Rattle.geometry.specs.Bounds.{windowBad, pointerBad};
-ghost use Rattle.lists.specs.Params.{tooLong};
-ghost use Rattle.st7789.specs.Refusals.{badState};
-ghost use Rattle.st7789.specs.Places.{partsBad, judgedFor};
+ghost use Rattle.lists.specs.Entries.{some};
+ghost use Rattle.st7789.specs.Refusals.{itself, clauses, badState};
+ghost use Rattle.st7789.specs.Places.{judgedFor, cellsFor, endFor};
 ghost use Rattle.status.specs.Numbers.{number};
 use crate::Controller;
-use crate::Counts;
-use crate::Logs;
-use crate::Marks;
-use crate::current::current_bad;
-use crate::current::held;
-use crate::current::place;
-use crate::wide;
-use chip::Chip;
-use lists::Params;
-use lists::Stored;
+use crate::PanelMemory;
+use crate::St7789p3;
+use lists::MAX_PARAMS;
+use lists::PLACES;
 use lists::TraceRecord;
+use status::PANEL_PIXELS;
 use status::Status;
 
-fn chip_bad(chip: Chip) -> bool
-    ensures { λ r. ⌜ r ≡ (windowBad (chip .window) || (pointerBad (chip .walk .pointer) || tooLong (chip .decoder .params))) ⌝ }
-{
-    let corners = geometry::window_bad(chip.window);
-    let at = geometry::pointer_bad(chip.walk.pointer);
-    corners | (at | (chip.decoder.params.count > 14))
-}
-
-// What BAD_STATE asks of everything but the records.
-pub(crate) fn parts_bad(chip: Chip, stored: [Stored; 12], marks: Marks, logs: Logs) -> bool
-    ensures { λ r. ⌜ r ≡ partsBad chip stored (marks .dirty) logs ⌝ }
-{
-    let bad = chip_bad(chip);
-    let long = lists::stored_long(stored);
-    let dirty = marks.dirty;
-    let span = pixels::span_bad(dirty);
-    bad | (long | ((logs.traced > 128) | ((logs.warned > 128) | span)))
-}
-
-// How many records to look at: none where the state is bad already.
-pub(crate) fn scanned(bad: bool, traced: u8) -> usize
-    ensures { λ r. ⌜ r ≡ cond bad 0 traced ⌝ }
-{
-    if bad {
-        return 0;
+impl PanelMemory {
+    // How much memory a transfer takes as lent, of so many numbers.
+    pub(crate) fn cells(self, len: usize) -> usize
+        ensures { λ r. ⌜ r ≡ cellsFor self len ⌝ }
+    {
+        match self {
+            PanelMemory::Lent => len,
+            PanelMemory::Without => PANEL_PIXELS,
+        }
     }
-    wide(traced)
-}
 
-// The tests of a transfer but for those of parts and records, which told `bad`.
-pub(crate) fn judged(
-    bad: bool,
-    logs: Logs,
-    record: TraceRecord,
-    in_force: Params,
-    counts: Counts,
-    cells: usize,
-    bytes: usize,
-) -> Status
-    ensures { λ r. ⌜ number r ≡ judgedFor bad (logs .current) (logs .traced) «record» «in_force» counts cells bytes ⌝ }
-{
-    let wrong = current_bad(logs, record.params, in_force);
-    if bad | wrong {
-        return Status::BadState;
+    // How many of them it may store to.
+    pub(crate) fn end(self, len: usize) -> usize
+        ensures { λ r. ⌜ r ≡ endFor self len ⌝ }
+    {
+        match self {
+            PanelMemory::Lent => len,
+            PanelMemory::Without => 0,
+        }
     }
-    let high = status::counts_high(
-        counts.commands,
-        counts.ramwr_count,
-        counts.pixels_written,
-        counts.dropped_params,
-        held(logs, record.pixel_bytes),
-    );
-    status::transfer_status(cells, bytes, high)
 }
 
 impl Controller {
+    // BAD_STATE, by what was told of the lists: a stored list is too long, a used record's is, the current record is wrong.
+    pub(crate) fn bad(self, stored: bool, records: bool, current: bool) -> bool
+        ensures { λ r. ⌜ r ≡ some itself (clauses self stored records current) ⌝ }
+    {
+        let corner = geometry::window_bad(self.chip.window);
+        let at = geometry::pointer_bad(self.chip.walk.pointer);
+        let in_force = self.chip.decoder.params.count > MAX_PARAMS;
+        let traced = lists::over(self.logs.traced, PLACES);
+        let warned = lists::over(self.logs.warned, PLACES);
+        let marks = self.marks;
+        let dirty = marks.dirty;
+        let span = pixels::span_bad(dirty);
+        corner | (at | (in_force | (stored | (records | (traced | (warned | (span | current)))))))
+    }
+
+    // The tests of a transfer, by what was told of the lists and by the record at the current one's place.
+    pub(crate) fn judged(
+        self,
+        stored: bool,
+        records: bool,
+        record: TraceRecord,
+        cells: usize,
+        bytes: usize,
+    ) -> Status
+        ensures { λ r. ⌜ number r ≡ judgedFor self stored records «record» cells bytes ⌝ }
+    {
+        let logs = self.logs;
+        let wrong = logs.current_bad(record.params, self.chip.decoder.params);
+        let bad = self.bad(stored, records, wrong);
+        let counts = [
+            self.counts.commands,
+            self.counts.ramwr_count,
+            self.counts.pixels_written,
+            self.counts.dropped_params,
+            logs.held(record.pixel_bytes),
+        ];
+        status::transfer_status(bad, cells, bytes, &counts)
+    }
+}
+
+impl St7789p3 {
     // BAD_STATE: whether the state is one that no transfer and no publishing takes.
     pub fn bad_state(self) -> bool
         ensures answer { λ r. ⌜ r ≡ badState self ⌝ }
     {
-        let mut bad = parts_bad(self.chip, self.stored, self.marks, self.logs);
-        let n = scanned(bad, self.logs.traced);
-        let mut i = 0;
-        while i < n {
-            bad = bad | (self.records[i].params.count > 14);
-            i += 1;
+        let controller = self.controller;
+        let stored_long = lists::stored_long(self.stored);
+        let used = lists::free(controller.logs.traced, PLACES);
+        let mut long = false;
+        let mut j = 0;
+        while j < used {
+            long = long | (self.records[j].params.count > MAX_PARAMS);
+            j += 1;
         }
-        let at = place(self.logs);
+        let at = controller.logs.place();
         let record = self.records[at];
-        let wrong = current_bad(self.logs, record.params, self.chip.decoder.params);
-        bad | wrong
+        let wrong = controller
+            .logs
+            .current_bad(record.params, controller.chip.decoder.params);
+        controller.bad(stored_long, long, wrong)
     }
 }

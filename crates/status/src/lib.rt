@@ -1,8 +1,9 @@
 // 01's table of refusals: names, and the tests that look at numbers alone.
 ghost use mathlib.Core.Path.{_≡_};
 ghost use lib.Dec.{eqb};
+ghost use Rattle.lists.specs.Entries.{some};
 ghost use Rattle.status.specs.Numbers.{number};
-ghost use Rattle.status.specs.Tests.{countsHigh, memoryRefusal, transferTests};
+ghost use Rattle.status.specs.Tests.{first, high, memoryRefusal, transferRow};
 
 pub const PANEL_PIXELS: usize = 76800;
 
@@ -42,11 +43,18 @@ pub fn accepted(status: Status) -> bool
     number(status) == 0
 }
 
-// COUNT_HIGH: whether one of these is above 2^63.
-pub fn counts_high(commands: u64, ramwrs: u64, pixels: u64, dropped: u64, held: u64) -> bool
-    ensures answer { λ r. ⌜ r ≡ countsHigh commands ramwrs pixels dropped held ⌝ }
+// Whether one of the counts is above 2^63.
+pub fn some_high(counts: &[u64]) -> bool
+    ensures answer { λ r. ⌜ r ≡ some high (now (counts .entry)) ⌝ }
 {
-    (commands > HIGH) | ((ramwrs > HIGH) | ((pixels > HIGH) | ((dropped > HIGH) | (held > HIGH))))
+    let mut i = 0;
+    while i < counts.len() {
+        if counts[i] > HIGH {
+            return true;
+        }
+        i += 1;
+    }
+    false
 }
 
 // BAD_MEMORY alone.
@@ -59,17 +67,20 @@ pub fn memory_status(cells: usize) -> Status
     Status::BadMemory
 }
 
-// The tests of a transfer that come after BAD_STATE.
-pub fn transfer_status(cells: usize, bytes: usize, high: bool) -> Status
-    ensures answer { λ r. ⌜ number r ≡ transferTests cells bytes high ⌝ }
+// The tests of a transfer: BAD_STATE, BAD_MEMORY, TOO_LONG, COUNT_HIGH, the first and the last told by what looked at the state.
+pub fn transfer_status(bad: bool, cells: usize, bytes: usize, counts: &[u64]) -> Status
+    ensures answer { λ r. ⌜ number r ≡ first (transferRow bad cells bytes (now (counts .entry))) ⌝ }
 {
+    if bad {
+        return Status::BadState;
+    }
     if cells != PANEL_PIXELS {
         return Status::BadMemory;
     }
     if bytes > 65536 {
         return Status::TooLong;
     }
-    if high {
+    if some_high(counts) {
         return Status::CountHigh;
     }
     Status::Ok

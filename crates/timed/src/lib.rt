@@ -1,4 +1,5 @@
 // For timing from outside: what a host with memory calls, run many times over lent buffers. No rule of 01 stands here and no crate is above it.
+use board::PanelConfig;
 use board::Power;
 use chip::Registers;
 use pixels::Span;
@@ -7,6 +8,8 @@ use st7789::Controller;
 use st7789::Counts;
 use st7789::Logs;
 use st7789::Marks;
+use st7789::PanelMemory;
+use st7789::St7789p3;
 use status::Status;
 use views::FrameView;
 
@@ -93,9 +96,10 @@ fn session(
     out: &mut [u64; 8],
 ) {
     let rows = table.len() / 4;
-    let controller = Controller::fresh(true);
+    let cfg = PanelConfig::new(true);
+    let panel = St7789p3::fresh(cfg);
     let mut a = Answer {
-        controller,
+        panel,
         status: Status::Ok,
     };
     let mut refused: u64 = 0;
@@ -104,13 +108,24 @@ fn session(
     while i < turns {
         i += 1;
         let s = segment_at(table, row);
-        a = a.controller
-            .transfer(s.t, s.dc, part(bytes, s.start, s.end), s.release, memory);
+        a = a.panel.transfer(
+            s.t,
+            s.dc,
+            part(bytes, s.start, s.end),
+            s.release,
+            PanelMemory::Lent,
+            memory,
+        );
         let status = a.status;
         refused = counted(refused, status);
         row = next_row(row, first, rows);
     }
-    tell(refused, a.controller.counts, a.controller.logs, out);
+    tell(
+        refused,
+        a.panel.controller.counts,
+        a.panel.controller.logs,
+        out,
+    );
 }
 
 // The same session again and again; what the last one left is told.
@@ -140,17 +155,20 @@ pub extern "C" fn timed_publish(
     memory: &[u16],
     frame: &mut [u16],
 ) -> u64 {
-    let mut controller = Controller::fresh(true);
+    let cfg = PanelConfig::new(true);
+    let mut panel = St7789p3::fresh(cfg);
     let mut refused: u64 = 0;
     let mut i = 0;
     while i < turns {
         let dirty = Span::Rows(first, last);
         let marks = Marks { dirty };
+        let mut controller = panel.controller;
         controller.marks = marks;
-        let p = publishing::publish(controller, memory, frame);
+        panel.controller = controller;
+        let p = publishing::publish(panel, memory, frame);
         let status = p.status;
         refused = counted(refused, status);
-        controller = p.controller;
+        panel = p.panel;
         i += 1;
     }
     refused
@@ -181,7 +199,8 @@ pub extern "C" fn timed_view(
         scale,
         duty: 0,
     };
-    let mut controller = Controller::fresh(true);
+    let cfg = PanelConfig::new(true);
+    let mut controller = Controller::fresh(cfg);
     let mut chip = controller.chip;
     let old = chip.registers;
     let registers = Registers {

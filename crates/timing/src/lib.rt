@@ -1,7 +1,8 @@
 // The timing lint: what the firmware did too early. Warnings only, never enforced. Times are nanoseconds.
 ghost use mathlib.Core.Path.{_≡_};
-ghost use Prim.Native.Nat.{_-_};
-ghost use Rattle.timing.specs.Lint.{soonAfter, breaks1, breaks2, breaks3, brokenBy, freshTimes, timesAfter};
+ghost use Prim.Native.Nat.{_-_, _≤_};
+ghost use lib.ListN.{length, getD};
+ghost use Rattle.timing.specs.Lint.{soonAfter, breaks1, breaks2, breaks3, brokenBy, only, rulesOf, freshTimes, timesAfter};
 
 const SLPOUT_SETTLE: u64 = 5_000_000;
 
@@ -78,6 +79,41 @@ pub fn lint(times: Times, colmod: u8, c: u8, t: u64) -> Broken
         rule1,
         rule2,
         rule3,
+    }
+}
+
+fn one(broken: bool) -> usize
+    ensures { λ r. ⌜ r ≡ length (only broken 0) ⌝ }
+    ensures { λ r. ⌜ r ≤ 1 ⌝ }
+{
+    if broken { 1 } else { 0 }
+}
+
+impl Broken {
+    // How many rules are broken.
+    pub fn count(self) -> usize
+        ensures answer { λ r. ⌜ r ≡ length (rulesOf self) ⌝ }
+    {
+        one(self.rule1) + one(self.rule2) + one(self.rule3)
+    }
+
+    // The number of the broken rule that stands at k in their order, 0 past the last.
+    pub fn rule(self, k: usize) -> u8
+        ensures answer { λ r. ⌜ r ≡ getD (rulesOf self) k 0 ⌝ }
+    {
+        let two = one(self.rule1);
+        let three = two + one(self.rule2);
+        let end = three + one(self.rule3);
+        if k < two {
+            return 1;
+        }
+        if k < three {
+            return 2;
+        }
+        if k < end {
+            return 3;
+        }
+        0
     }
 }
 

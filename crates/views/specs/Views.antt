@@ -4,7 +4,7 @@ use mathlib.Core.Bool.{Bool, cond, not, _&&_}
 use mathlib.Core.List.{List, [], map}
 use lib.ListN.{length, getD, take, drop}
 use lib.Dec.{ltb, eqb}
-use Rattle.status.specs.Tests.{memoryRefusal}
+use Rattle.status.specs.Tests.{first, viewRow, memoryRefusal}
 use Rattle.status.specs.Numbers.{unlessRefused}
 use Rattle.st7789.specs.declared.Controller.{Controller}
 use Rattle.views.specs.Light.{lightOf, viewed}
@@ -18,9 +18,9 @@ pixelSeen view s x y memory =
     unlessRefused (memoryRefusal (length memory))
     (cond (ltb x 240 && ltb y 320) (viewed view (lightOf s) (getD memory (y * 240 + x) 0)) 0) 0
 
--- BAD_MEMORY: "panel memory isn't 76,800 numbers"; then BAD_FRAME: "frame or view buffer isn't 76,800 numbers".
+-- The refusal of a whole view.
 abbrev pub frameRefusal : ℕ → ℕ → ℕ
-frameRefusal cells room = cond (not (eqb cells 76800)) 2 (cond (not (eqb room 76800)) 3 0)
+frameRefusal cells room = first (viewRow cells room)
 
 -- A whole view, pixel by pixel; refused, "every lent number as before".
 unfoldable pub frameSeen : FrameView → Controller → List ℕ → List ℕ → List ℕ

@@ -2,7 +2,7 @@ use Rattle.publishing.proofs.flags_if.Statement.{statement}
 use Rattle.publishing.proofs.flags_if.Tie as tie
 
 returns : tie.Need-returns
-returns c = simp (c .if1 .taken)
+returns c = simp (c .before .before .if1 .taken)
 
 returns-2 : tie.Need-returns-2
 returns-2 c = simp (c .if1 .left)

@@ -21,7 +21,7 @@ span-if-requires : tie.Need-span-if-requires
 span-if-requires c κs = search needs
 
 copy-span-requires : tie.Need-copy-span-requires
-copy-span-requires c κs = let a = c .before .before .before .before .before .before .before .before .before .args in span-ready (a .controller) _ _ _ (number-told (a .controller) _ _ (c .before .before .before .before .before .before .bad-state .ensures) (c .before .before .before .before .before .publish-status .ensures)) (c .before .before .before .before .accepted .ensures) (c .before .span-if .ensures)
+copy-span-requires c κs = let a = c .before .before .before .before .before .before .before .before .before .before .args in span-ready (a .panel) _ _ _ (number-told (a .panel) _ _ (c .before .before .before .before .before .before .before .bad-state .ensures) (c .before .before .before .before .before .before .publish-status .ensures)) (c .before .before .before .before .before .accepted .ensures) (c .before .span-if .ensures)
 
 span-if-requires-2 : tie.Need-span-if-requires-2
 span-if-requires-2 c κs = search needs
@@ -31,10 +31,9 @@ same-length c = search needs
 
 returns : tie.Need-returns
 returns c =
-    let a = c .before .before .before .before .before .before .before .before .before .before .before .before .before .args in
-    let p = c .before .before .before .before .before .before .before .before .before .publish-status in
-    let n = number-told (a .controller) _ _ (c .before .before .before .before .before .before .before .before .before .before .bad-state .ensures) (p .ensures) in
-    all-told (a .controller) (a .memory .now) (a .frame .now) (p .result) _ n (c .before .before .before .before .before .before .before .before .accepted .ensures ∙ ap (λ k. eqb k 0) n) (c .before .before .before .before .before .span-if .ensures) (c .span-if2 .ensures) (c .before .before .before .before .before .before .flags-if .ensures) (c .before .before .before .copy-span .ensures)
+    let a = c .before .before .before .before .before .before .before .before .before .before .before .before .before .before .args in
+    let n = number-told (a .panel) _ _ (c .before .before .before .before .before .before .before .before .before .before .before .bad-state .ensures) (c .before .before .before .before .before .before .before .before .before .before .publish-status .ensures) in
+    all-told (a .panel) (a .memory .now) (a .frame .now) (c .before .before .before .before .before .before .before .before .before .before .publish-status .result) _ n (c .before .before .before .before .before .before .before .before .before .accepted .ensures ∙ ap (λ k. eqb k 0) n) (c .before .before .before .before .before .span-if .ensures) (c .span-if2 .ensures) (c .before .before .before .before .before .before .flags-if .ensures) (c .before .before .before .copy-span .ensures)
 
 pub publish-spec : {M : Type 1} → statement M
 publish-spec =

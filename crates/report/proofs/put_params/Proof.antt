@@ -9,14 +9,14 @@ use borrow.Author.Needs.{needs}
 use Rattle.report.proofs.put_params.Statement.{statement}
 use Rattle.report.proofs.put_params.Tie as tie
 
-lesser-requires : tie.Need-lesser-requires
-lesser-requires c κs = search needs
+free-requires : tie.Need-free-requires
+free-requires c κs = search needs
 
 array-share-prefix-bytes : tie.Need-array-share-prefix-bytes
-array-share-prefix-bytes c = let h : length (c .before .before .before .before .args .p .bytes) ≡ 14 = search needs in omega (arith, c .before .before .lesser .ensures)
+array-share-prefix-bytes c = let h : length (c .before .before .before .before .args .p .bytes) ≡ 14 = search needs in omega (arith, c .before .before .free .ensures)
 
 slice-aggregate-put-hex-bytes : tie.Need-slice-aggregate-put-hex-bytes
-slice-aggregate-put-hex-bytes c = let h : length (c .before .before .before .before .before .args .p .bytes) ≡ 14 = search needs in sym (length-take-le _ _ (omega (arith, c .before .before .before .lesser .ensures)))
+slice-aggregate-put-hex-bytes c = let h : length (c .before .before .before .before .before .args .p .bytes) ≡ 14 = search needs in sym (length-take-le _ _ (omega (arith, c .before .before .before .free .ensures)))
 
 put-hex-bytes-requires : tie.Need-put-hex-bytes-requires
 put-hex-bytes-requires c κs = search needs
@@ -25,13 +25,13 @@ same-length : tie.Need-same-length
 same-length c = search needs
 
 returns : tie.Need-returns
-returns c = put-same _ _ (ap hexBytes (cut-taken _ _ _ (search needs) (c .before .before .before .before .before .before .lesser .ensures))) (c .before .before .put-hex-bytes .ensures)
+returns c = put-same _ _ (ap hexBytes (cut-taken _ _ _ (search needs) (c .before .before .before .before .before .before .free .ensures))) (c .before .before .put-hex-bytes .ensures)
 
 pub put-params-spec : {M : Type 1} → statement M
 put-params-spec =
     tie.close
     (tie.spec
-    lesser-requires
+    free-requires
     array-share-prefix-bytes
     slice-aggregate-put-hex-bytes
     put-hex-bytes-requires

@@ -13,8 +13,8 @@ Inv-loop out₀ at n warnings end used₀ i₀ out used i = Listing warningLine 
 abbrev μ-loop : tie.MeasureT-loop
 μ-loop out₀ at n warnings end used₀ i₀ out used i = end - i
 
-lesser-requires : tie.Need-lesser-requires Inv-loop μ-loop
-lesser-requires c κs = search needs
+free-requires : tie.Need-free-requires Inv-loop μ-loop
+free-requires c κs = search needs
 
 loop-holds : tie.Need-loop-holds Inv-loop μ-loop
 loop-holds c = listing-first (search (needs, unmapped))
@@ -35,13 +35,13 @@ loop-less : tie.Need-loop-less Inv-loop μ-loop
 loop-less c = search needs
 
 loop-again : tie.Need-loop-again Inv-loop μ-loop
-loop-again c = listing-next (c .before .before .before .before .before .before .loop .inv) (c .before .before .before .before .before .before .before .lesser .ensures) (record { at = 0; rule = 0; cmd = 0 }) (c .before .before .before .before .before .loop-test .taken) (c .before .before .put-warning .ensures)
+loop-again c = listing-next (c .before .before .before .before .before .before .loop .inv) (c .before .before .before .before .before .before .before .free .ensures) (record { at = 0; rule = 0; cmd = 0 }) (c .before .before .before .before .before .loop-test .taken) (c .before .before .put-warning .ensures)
 
 same-length : tie.Need-same-length Inv-loop μ-loop
 same-length c = c .before .loop .inv .written .long
 
 returns : tie.Need-returns Inv-loop μ-loop
-returns c = listing-last (c .before .loop .inv) (c .before .before .lesser .ensures) (c .loop-test .left)
+returns c = listing-last (c .before .loop .inv) (c .before .before .free .ensures) (c .loop-test .left)
 
 pub put-warnings-spec : {M : Type 1} → statement M
 put-warnings-spec =
@@ -49,7 +49,7 @@ put-warnings-spec =
     (tie.spec
     Inv-loop
     μ-loop
-    lesser-requires
+    free-requires
     loop-holds
     mul-warning
     array-copy-out-warning

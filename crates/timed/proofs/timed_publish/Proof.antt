@@ -1,3 +1,4 @@
+use native.Mathlib.Omega.{arith}
 use mathlib.Core.Path.{_≡_}
 use Prim.Native.Nat.{_-_}
 use lib.ListN.{length}
@@ -6,10 +7,13 @@ use Rattle.timed.proofs.timed_publish.Statement.{statement}
 use Rattle.timed.proofs.timed_publish.Tie as tie
 
 abbrev Inv-loop : tie.InvT-loop
-Inv-loop first last turns memory frame₀ controller₀ refused₀ i₀ frame controller refused i = length frame ≡ length frame₀
+Inv-loop first last turns memory frame₀ panel₀ refused₀ i₀ frame panel refused i = length frame ≡ length frame₀
 
 abbrev μ-loop : tie.MeasureT-loop
-μ-loop first last turns memory frame₀ controller₀ refused₀ i₀ frame controller refused i = turns - i
+μ-loop first last turns memory frame₀ panel₀ refused₀ i₀ frame panel refused i = turns - i
+
+new-requires : tie.Need-new-requires Inv-loop μ-loop
+new-requires c κs = search needs
 
 fresh-requires : tie.Need-fresh-requires Inv-loop μ-loop
 fresh-requires c κs = search needs
@@ -24,7 +28,7 @@ counted-requires : tie.Need-counted-requires Inv-loop μ-loop
 counted-requires c κs = search needs
 
 add-i : tie.Need-add-i Inv-loop μ-loop
-add-i c = search needs
+add-i c = omega (arith, c .before .before .before .before .before .before .before .loop-test .taken, c .before .before .before .before .before .before .before .before .before .before .before .before .before .fits .turns .fits)
 
 loop-less : tie.Need-loop-less Inv-loop μ-loop
 loop-less c = search needs
@@ -44,6 +48,7 @@ timed-publish-spec =
     (tie.spec
     Inv-loop
     μ-loop
+    new-requires
     fresh-requires
     loop-holds
     publish-requires

@@ -11,6 +11,9 @@ Inv-loop number level scale inverted turns memory buffer₀ controller refused�
 abbrev μ-loop : tie.MeasureT-loop
 μ-loop number level scale inverted turns memory buffer₀ controller refused₀ i₀ buffer refused i = turns - i
 
+new-requires : tie.Need-new-requires Inv-loop μ-loop
+new-requires c κs = search needs
+
 fresh-requires : tie.Need-fresh-requires Inv-loop μ-loop
 fresh-requires c κs = search needs
 
@@ -47,6 +50,7 @@ timed-view-spec =
     (tie.spec
     Inv-loop
     μ-loop
+    new-requires
     fresh-requires
     loop-holds
     view-of-requires

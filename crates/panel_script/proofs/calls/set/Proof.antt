@@ -41,35 +41,26 @@ element-copy-out-stored c = search needs
 stored-requires : tie.Need-stored-requires
 stored-requires c κs = search needs
 
-chip-requires : tie.Need-chip-requires
-chip-requires c κs = search needs
-
-counts-requires : tie.Need-counts-requires
-counts-requires c κs = search needs
-
-marks-requires : tie.Need-marks-requires
-marks-requires c κs = search needs
-
-logs-requires : tie.Need-logs-requires
-logs-requires c κs = search needs
+controller-requires : tie.Need-controller-requires
+controller-requires c κs = search needs
 
 mul-stored-2 : tie.Need-mul-stored-2
-mul-stored-2 c = search (needs, c .before .before .before .before .before .before .before .before .before .before .before .before .stored-slot .ensures)
+mul-stored-2 c = search (needs, c .before .before .before .before .before .before .before .stored-slot .ensures)
 
 element-set-from-stored : tie.Need-element-set-from-stored
-element-set-from-stored c = search (needs, c .before .before .before .before .before .before .before .before .before .before .before .before .stored-slot .ensures)
+element-set-from-stored c = search (needs, c .before .before .before .before .before .before .before .stored-slot .ensures)
 
 mul-record-2 : tie.Need-mul-record-2
-mul-record-2 c = search (needs, c .before .before .before .before .before .before .before .before .before .before .before .before .before .before .slot .ensures)
+mul-record-2 c = search (needs, c .before .before .before .before .before .before .before .before .before .slot .ensures)
 
 element-set-from-record : tie.Need-element-set-from-record
-element-set-from-record c = search (needs, c .before .before .before .before .before .before .before .before .before .before .before .before .before .before .slot .ensures)
+element-set-from-record c = search (needs, c .before .before .before .before .before .before .before .before .before .slot .ensures)
 
 mul-warning-2 : tie.Need-mul-warning-2
-mul-warning-2 c = search (needs, c .before .before .before .before .before .before .before .before .before .before .before .before .before .slot2 .ensures)
+mul-warning-2 c = search (needs, c .before .before .before .before .before .before .before .before .slot2 .ensures)
 
 element-set-from-warning : tie.Need-element-set-from-warning
-element-set-from-warning c = search (needs, c .before .before .before .before .before .before .before .before .before .before .before .before .before .slot2 .ensures)
+element-set-from-warning c = search (needs, c .before .before .before .before .before .before .before .before .slot2 .ensures)
 
 returns : tie.Need-returns
 returns c = search needs
@@ -91,10 +82,7 @@ set-spec =
     mul-stored
     element-copy-out-stored
     stored-requires
-    chip-requires
-    counts-requires
-    marks-requires
-    logs-requires
+    controller-requires
     mul-stored-2
     element-set-from-stored
     mul-record-2

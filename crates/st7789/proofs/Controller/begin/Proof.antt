@@ -1,0 +1,15 @@
+use borrow.Author.Needs.{needs}
+use Rattle.st7789.proofs.Controller.begin.Statement.{statement}
+use Rattle.st7789.proofs.Controller.begin.Tie as tie
+
+begin-requires : tie.Need-begin-requires
+begin-requires c κs = search needs
+
+begin-requires-2 : tie.Need-begin-requires-2
+begin-requires-2 c κs = search needs
+
+returns : tie.Need-returns
+returns c = simp (c .begin2 .ensures, c .before .begin .ensures)
+
+pub begin-spec : {M : Type 1} → statement M
+begin-spec = tie.close (tie.spec begin-requires begin-requires-2 returns)

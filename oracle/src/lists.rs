@@ -16,7 +16,7 @@ const USAGE: &str = "\
 oracle make-lists DIR
 Writes the fixed lists into the folder DIR: logs, logs.expected, scripts, scripts.expected. They hold
 the cases in examples and lists/hand, then generated ones, chosen for what they meet that few cases
-before them met. The same sources give the same bytes.
+before them met, then those in lists/added. The same sources give the same bytes.
 ";
 
 const CHECK_USAGE: &str = "\
@@ -31,7 +31,7 @@ In a build whose Rust copy has the marks of branches.txt: runs the fixed lists i
 prints which marks were not passed.
 ";
 
-/// How many cases each list gets, and the longest generated ones.
+/// How many cases each list gets before those of lists/added, and the longest generated ones.
 const CASES: usize = 300;
 const LOG_LIMIT: usize = 800;
 const SCRIPT_LIMIT: usize = 1200;
@@ -49,8 +49,10 @@ pub fn make(words: &[&str]) -> io::Result<ExitCode> {
     };
     let folder = Path::new(folder);
     fs::create_dir_all(folder)?;
-    let (logs, logs_met) = chosen(Kind::Log)?;
-    let (scripts, scripts_met) = chosen(Kind::Script)?;
+    let (mut logs, logs_met) = chosen(Kind::Log)?;
+    let (mut scripts, scripts_met) = chosen(Kind::Script)?;
+    logs.extend(cases_in("lists/added", Kind::Log)?);
+    scripts.extend(cases_in("lists/added", Kind::Script)?);
     let mut joined = Vec::new();
     let mut answers = Vec::new();
     for (at, case) in logs.iter().enumerate() {
@@ -97,12 +99,13 @@ fn chosen(kind: Kind) -> io::Result<(Vec<Case>, usize)> {
     let mut names = BTreeMap::new();
     let mut cases: Vec<Case> = Vec::new();
     let mut met: Vec<u32> = Vec::new();
-    for input in by_hand(kind)? {
-        let case = Case { kind, input };
-        for thing in things(&case, &mut names).0 {
-            count(&mut met, thing);
+    for folder in ["examples", "lists/hand"] {
+        for case in cases_in(folder, kind)? {
+            for thing in things(&case, &mut names).0 {
+                count(&mut met, thing);
+            }
+            cases.push(case);
         }
-        cases.push(case);
     }
     let mut left = Vec::new();
     for number in 0..TRIED {
@@ -203,27 +206,26 @@ fn things(case: &Case, names: &mut BTreeMap<String, usize>) -> (Vec<usize>, usiz
     (things, printed)
 }
 
-/// The examples and the cases of lists/hand, by name.
-fn by_hand(kind: Kind) -> io::Result<Vec<Vec<u8>>> {
+/// The cases of a folder of the oracle, by name.
+fn cases_in(folder: &str, kind: Kind) -> io::Result<Vec<Case>> {
     let package = Path::new(env!("CARGO_MANIFEST_DIR"));
     let ending = Case {
         kind,
         input: Vec::new(),
     }
     .ending();
-    let mut inputs = Vec::new();
-    for folder in ["examples", "lists/hand"] {
-        let mut names: Vec<_> = match fs::read_dir(package.join(folder)) {
-            Ok(entries) => entries.flatten().map(|entry| entry.path()).collect(),
-            Err(_) => Vec::new(),
-        };
-        names.retain(|name| name.extension().is_some_and(|found| found == ending));
-        names.sort();
-        for name in names {
-            inputs.push(fs::read(name)?);
-        }
+    let mut names: Vec<_> = match fs::read_dir(package.join(folder)) {
+        Ok(entries) => entries.flatten().map(|entry| entry.path()).collect(),
+        Err(_) => Vec::new(),
+    };
+    names.retain(|name| name.extension().is_some_and(|found| found == ending));
+    names.sort();
+    let mut cases = Vec::new();
+    for name in names {
+        let input = fs::read(name)?;
+        cases.push(Case { kind, input });
     }
-    Ok(inputs)
+    Ok(cases)
 }
 
 /// `check-lists DIR`.

@@ -10,15 +10,22 @@ use Rattle.lists.specs.declared.TraceRecord.{TraceRecord}
 use Rattle.sequence.specs.Sequence.{bootSequence}
 use Rattle.boot.specs.Boot.{fits, emptyRecord, answered, comparedFrom, compared, stepOf, FitsAt}
 use Rattle.sequence.specs.declared.BootStep.{BootStep}
-use Rattle.boot.specs.declared.BootCheck.the-variants.{Match, Differs}
+use Rattle.boot.specs.declared.BootCheck.{BootCheck}
+use Rattle.boot.specs.declared.BootCheck.the-variants.{Match, Differs, Missing}
+
+-- Only a match has the number 0.
+pub only-match : (check : BootCheck) → stepOf check ≡ 0 → check ≡ Match
+only-match Match e = refl
+only-match (Differs k) e = absurd (omega arith)
+only-match (Missing k) e = absurd (omega arith)
 
 all-fit :
-    (k : ℕ) (steps : List BootStep) (records : List TraceRecord) → 0 < k → stepOf (comparedFrom k steps records .check) ≡ 0 → (i : ℕ) →
+    (k : ℕ) (steps : List BootStep) (records : List TraceRecord) → stepOf (comparedFrom k steps records .check) ≡ 0 → (i : ℕ) →
     i < length steps → FitsAt steps records i
 unfolding comparedFrom
-all-fit k [] records p e i h = absurd (omega arith)
-all-fit k (s ∷ steps) [] p e i h = absurd (omega arith)
-all-fit k (s ∷ steps) (r ∷ records) p e i h = by-fit (λ e′ j l. all-fit (k + 1) steps records (omega arith) e′ j l) (fits s r) refl e i h
+all-fit k [] records e i h = absurd (omega arith)
+all-fit k (s ∷ steps) [] e i h = absurd (omega arith)
+all-fit k (s ∷ steps) (r ∷ records) e i h = by-fit (λ e′ j l. all-fit (k + 1) steps records e′ j l) (fits s r) refl e i h
   where
     by-fit :
         (stepOf (comparedFrom (k + 1) steps records .check) ≡ 0 → (j : ℕ) → j < length steps → FitsAt steps records j) → (b : Bool) → fits s r ≡ b →
@@ -39,7 +46,7 @@ fit-all k (s ∷ steps) (r ∷ records) h =
 
 -- Where the answer's number is 0, each of the 23 steps has its record.
 pub match-fits : (records : List TraceRecord) → stepOf (compared records .check) ≡ 0 → (i : ℕ) → i < 23 → FitsAt bootSequence records i
-match-fits records e i h = all-fit 1 bootSequence records (omega arith) e i h
+match-fits records e i h = all-fit 1 bootSequence records e i h
 
 pub fits-match : (records : List TraceRecord) → ((i : ℕ) → i < 23 → FitsAt bootSequence records i) → compared records ≡ answered Match emptyRecord
 fits-match records h = fit-all 1 bootSequence records h

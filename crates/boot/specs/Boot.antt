@@ -1,5 +1,5 @@
 -- Rules: 01, "Boot comparison".
-use Prim.Native.Nat.{ℕ, _+_, _-_, _<_}
+use Prim.Native.Nat.{ℕ, _+_, _-_, _<_, max}
 use mathlib.Core.Path.{_≡_}
 use mathlib.Core.Bool.{Bool, true, cond, not, _&&_}
 use mathlib.Core.List.{List, [], _∷_}
@@ -46,11 +46,12 @@ judgedBy (Missing k) c r = comparedFrom k (drop (k - 1) bootSequence) (r ∷ [])
 abbrev pub judged : Compared → TraceRecord → Compared
 judged c r = judgedBy (c .check) c r
 
--- "boot: step, or `ok`": the step's number, and 0 for a match.
+-- "boot: step, or `ok`": the step's number, and 0 for a match alone. Steps are numbered from 1: a 0 stands for the first, with which
+-- `judged` compares there.
 abbrev pub stepOf : BootCheck → ℕ
 stepOf Match = 0
-stepOf (Differs k) = k
-stepOf (Missing k) = k
+stepOf (Differs k) = max k 1
+stepOf (Missing k) = max k 1
 
 -- What `match-fits` and `fits-match` say of each step: record i is there and fits step i, counted from 0.
 abbrev pub FitsAt : List BootStep → List TraceRecord → ℕ → Type 0

@@ -1,7 +1,7 @@
 // The boot comparison: a trace against the 23 commands of the boot sequence.
 ghost use mathlib.Core.Path.{_≡_};
 ghost use mathlib.Core.List.{[], _∷_};
-ghost use Prim.Native.Nat.{_-_, _≤_, min};
+ghost use Prim.Native.Nat.{_-_, _≤_, min, max};
 ghost use lib.ListN.{take, drop};
 ghost use Rattle.lists.specs.Fixed.{places};
 ghost use Rattle.sequence.specs.Sequence.{bootSequence};
@@ -82,6 +82,13 @@ fn step_fits(step: BootStep, r: TraceRecord) -> bool
     !wanted.differs(params)
 }
 
+// A step's number: they count from 1.
+fn from_one(k: u8) -> u8
+    ensures { λ r. ⌜ r ≡ max k 1 ⌝ }
+{
+    if k == 0 { 1 } else { k }
+}
+
 impl BootCheck {
     // Document 01's number of the answer.
     pub fn number(self) -> u8
@@ -89,8 +96,8 @@ impl BootCheck {
     {
         match self {
             BootCheck::Match => 0,
-            BootCheck::Differs(k) => k,
-            BootCheck::Missing(k) => k,
+            BootCheck::Differs(k) => from_one(k),
+            BootCheck::Missing(k) => from_one(k),
         }
     }
 }

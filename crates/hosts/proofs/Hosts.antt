@@ -3,37 +3,46 @@ use Prim.Native.Nat.{ℕ}
 use mathlib.Core.Path.{_≡_, refl, sym, ap, _∙_}
 use mathlib.Core.List.{List, [], _∷_}
 use lib.ListN.{length}
+use Rattle.status.proofs.Unless.{unless-none}
+use Rattle.marks.specs.Rows.{noRows, spanOf}
 use Rattle.board.specs.declared.PanelConfig.{PanelConfig}
 use Rattle.st7789.specs.Entries.{newMemory}
+use Rattle.st7789.specs.declared.St7789p3.{St7789p3}
 use Rattle.publishing.specs.Publish.{spanCopied, published, publishedFrame}
-use Rattle.hosts.specs.Calls.{Host, Call, commands, segment, publish, reset, markAll, power, shows, brightness, pixel, view, row, compare, fresh, refusal, step, run, Accepted}
-use Rattle.hosts.specs.Hosts.{rest, Makes, done, besides, same, sends, owed, since, TwoHosts, OneCuts}
-use Rattle.hosts.proofs.Twins.{unmarked, bare, taken-on, run-does, makes-does}
+use Rattle.hosts.specs.Calls.{Host, Call, commands, segment, publish, reset, markAll, sets, looks, freshHost, refusal, step, run, Accepted}
+use Rattle.hosts.specs.Hosts.{rest, Makes, done, besides, same, sends, owed, since, marksOf, TwoHosts, OneCuts}
+use Rattle.laws.proofs.Marks.{unmarked}
+use Rattle.hosts.proofs.Twins.{core, run-does, makes-does}
 use Rattle.hosts.proofs.Moments.{copied-whole, end-good, end-fits, every-moment, last-publish}
 
--- What the last publish leaves: an empty span, and the memory as frame.
-module _ (cfg : PanelConfig) (calls : List Call) (a : Accepted (fresh cfg) calls) where
-  published-state : step (run (fresh cfg) calls) publish .panel ≡ unmarked (run (fresh cfg) calls .panel)
+-- What the last publish leaves: no row marked, and the memory as frame.
+module _ (cfg : PanelConfig) (calls : List Call) (a : Accepted (freshHost cfg) calls) where
+  published-state : step (run (freshHost cfg) calls) publish .panel ≡ unmarked (run (freshHost cfg) calls .panel)
   unfolding step published
   published-state =
-      let h : Host = run (fresh cfg) calls in
-      taken-on (refusal h publish) (unmarked (h .panel)) (h .panel) (last-publish cfg calls a)
+      let h : Host = run (freshHost cfg) calls in
+      unless-none (refusal h publish) (unmarked (h .panel)) (h .panel) (last-publish cfg calls a)
 
-  published-frame : step (run (fresh cfg) calls) publish .frame ≡ run (fresh cfg) calls .memory
+  published-empty : marksOf (step (run (freshHost cfg) calls) publish) ≡ noRows
+  published-empty = ap (λ (s : St7789p3). s .controller .marks) published-state
+
+  published-frame : step (run (freshHost cfg) calls) publish .frame ≡ run (freshHost cfg) calls .memory
   unfolding step publishedFrame
   published-frame =
-      let h : Host = run (fresh cfg) calls in
-      taken-on (refusal h publish) (spanCopied (h .panel .controller .marks .dirty) (h .memory) (h .frame)) (h .frame) (last-publish cfg calls a)
+      let h : Host = run (freshHost cfg) calls in
+      unless-none (refusal h publish) (spanCopied (spanOf (marksOf h)) (h .memory) (h .frame)) (h .frame) (last-publish cfg calls a)
       ∙ copied-whole h (since cfg calls) (end-good cfg calls a) (end-fits cfg calls a)
 
 pub two-hosts : TwoHosts
 unfolding step
 two-hosts cfg agreed us vs mu mv au av =
-    let e : bare (run (fresh cfg) us) ≡ bare (run (fresh cfg) vs) =
-    run-does (fresh cfg) us au ∙ makes-does mu (bare (fresh cfg)) ∙ sym (makes-does mv (bare (fresh cfg))) ∙ sym (run-does (fresh cfg) vs av) in
+    let e : core (run (freshHost cfg) us) ≡ core (run (freshHost cfg) vs) =
+    run-does (freshHost cfg) us au ∙ makes-does mu (core (freshHost cfg)) ∙ sym (makes-does mv (core (freshHost cfg))) ∙ sym (run-does (freshHost cfg) vs av) in
     record {
       last-a = last-publish cfg us au;
       last-b = last-publish cfg vs av;
+      empty-a = published-empty cfg us au;
+      empty-b = published-empty cfg vs av;
       agree =
           record {
             frame-a = published-frame cfg us au;
@@ -53,18 +62,13 @@ itself (segment t bytes cs ∷ calls) = sends rest (itself calls)
 itself (publish ∷ calls) = besides refl (itself calls)
 itself (reset domain ∷ calls) = same refl (itself calls)
 itself (markAll ∷ calls) = same refl (itself calls)
-itself (power on ∷ calls) = same refl (itself calls)
-itself (shows on ∷ calls) = same refl (itself calls)
-itself (brightness level scale duty ∷ calls) = same refl (itself calls)
-itself (pixel v x y ∷ calls) = besides refl (itself calls)
-itself (view v room ∷ calls) = besides refl (itself calls)
-itself (row m r ∷ calls) = besides refl (itself calls)
-itself (compare ∷ calls) = besides refl (itself calls)
+itself (sets x ∷ calls) = same refl (itself calls)
+itself (looks x ∷ calls) = besides refl (itself calls)
 
 pub one-cuts : OneCuts
 one-cuts cfg us vs m au av = two-hosts cfg (owed us) us vs (itself us) m au av
 
 -- Memory of the right length that a panel is made over is a fresh host's.
-pub made-fresh : (cfg : PanelConfig) (lent : List ℕ) → length lent ≡ 76800 → newMemory lent ≡ fresh cfg .memory
+pub made-fresh : (cfg : PanelConfig) (lent : List ℕ) → length lent ≡ 76800 → newMemory lent ≡ freshHost cfg .memory
 unfolding newMemory
 made-fresh cfg lent e = rw e

@@ -5,6 +5,8 @@ use mathlib.Core.List.{List, [], _∷_}
 use borrow.Author.Tests.{eqb-true}
 use lib.Dec.{eqb}
 use Rattle.geometry.specs.Place.{mapOf, outcome, next}
+use Rattle.marks.specs.Rows.{noRows, allRows, mark, spanOf, marksBad}
+use Rattle.pixels.specs.Bytes.{arrival}
 use Rattle.pixels.specs.Run.{stores, walkAfter, pixelsCounted}
 use Rattle.lists.proofs.Bools.{both}
 use Rattle.lists.specs.Params.{filled, differ}
@@ -17,7 +19,7 @@ use Rattle.st7789.specs.Data.{ran, taken, dataIn}
 use Rattle.st7789.specs.Refusals.{badState, transferRefusal}
 use Rattle.st7789.specs.Entries.{freshController, emptyLists, moved, transferred, transferMemory, resetState, resetMemory}
 use Rattle.publishing.specs.Publish.{publishRefusal, published, publishedFrame}
-use Rattle.hosts.specs.Calls.{Host, Call, Accepted, fresh, refusal, step, run}
+use Rattle.hosts.specs.Calls.{Host, Call, Accepted, freshHost, refusal, step, run}
 use Rattle.hosts.specs.Hosts.{rest, part, between, Makes, done, besides, same, sends, Demand3}
 use Rattle.hosts.specs.Instance.{plan, first, second, leftOver}
 use Rattle.hosts.proofs.Hosts.{two-hosts}
@@ -48,12 +50,12 @@ passed h (c ∷ calls) e =
 
 -- One name that opens every definition, for what is computed.
 unfoldable opened : Bool
-unfolding mapOf outcome next stores walkAfter pixelsCounted filled differ brokenBy timesAfter freshChip chipBegun chipReleased appliedIfDue chipTaken begun controllerReleased ran taken dataIn badState transferRefusal freshController emptyLists moved transferred transferMemory resetState resetMemory publishRefusal published publishedFrame refusal step
+unfolding mapOf outcome next noRows allRows mark spanOf marksBad arrival stores walkAfter pixelsCounted filled differ brokenBy timesAfter freshChip chipBegun chipReleased appliedIfDue chipTaken begun controllerReleased ran taken dataIn badState transferRefusal freshController emptyLists moved transferred transferMemory resetState resetMemory publishRefusal published publishedFrame refusal step
 opened = true
 
 -- Both panels have the switch on.
 abbrev shown : Host
-shown = fresh (switchedTo true)
+shown = freshHost (switchedTo true)
 
 first-passes : passes shown first ≡ true
 unfolding opened

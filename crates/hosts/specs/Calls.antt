@@ -13,7 +13,7 @@ use Rattle.st7789.specs.Entries.{freshPanel, transferred, transferMemory, reset
 use Rattle.st7789.specs.declared.Controller.{Controller}
 use Rattle.st7789.specs.declared.St7789p3.{St7789p3}
 use Rattle.views.specs.Views.{frameRefusal}
-use Rattle.views.specs.declared.FrameView.{FrameView}
+use Rattle.light.specs.declared.FrameView.{FrameView}
 use Rattle.views.specs.declared.Memory.{Memory}
 use Rattle.publishing.specs.Publish.{publishRefusal, published, publishedFrame}
 
@@ -23,26 +23,47 @@ pub record Host : Type 0 where
   pub memory : List ℕ
   pub frame : List ℕ
 
+-- "a fresh panel, equally set, .. and an all-zero frame": one configuration, and so the switch as both set it.
+abbrev pub freshHost : PanelConfig → Host
+freshHost cfg = record { panel = freshPanel cfg; memory = replicate 76800 0; frame = replicate 76800 0 }
+
+-- What is set: power, the switch, or level, scale and duty of the brightness.
+pub data Setting : Type 0 where
+  power : Bool → Setting
+  shows : Bool → Setting
+  brightness : ℕ → ℕ → ℕ → Setting
+
+-- "Setting power, `invon_shows_ram`, brightness, .. never refused.": what it makes of the controller.
+abbrev pub settled : Setting → Controller → Controller
+settled (power on) k = poweredSet on k
+settled (shows on) k = showsSet on k
+settled (brightness level scale duty) k = brightnessSet level scale duty k
+
+-- What is looked at: a pixel, a whole view (in a buffer of so many numbers that is neither memory nor frame), a row of one of the two
+-- memories, the trace beside the boot table.
+pub data Look : Type 0 where
+  pixel : FrameView → ℕ → ℕ → Look
+  view : FrameView → ℕ → Look
+  row : Memory → ℕ → Look
+  compare : Look
+
+-- The number of the refusal that a look over so many cells of memory is given, 0 for none.
+abbrev pub lookRefusal : ℕ → Look → ℕ
+lookRefusal cells (pixel v x y) = memoryRefusal cells
+lookRefusal cells (view v room) = frameRefusal cells room
+lookRefusal cells (row m r) = 0
+lookRefusal cells compare = 0
+
 -- Transfers, "every transfer with memory": a segment of commands or of data, its time, its bytes, and whether CS is released after it.
--- `pixel`, `view`, `row` and `compare` only look: at a pixel, at a whole view (in a buffer of so many numbers that is neither memory nor
--- frame), at a row of one of the two memories, and at the trace beside the boot table. "warnings aren't taken": there is no such call.
+-- "warnings aren't taken": there is no such call.
 pub data Call : Type 0 where
   commands : ℕ → List ℕ → Bool → Call
   segment : ℕ → List ℕ → Bool → Call
   publish : Call
   reset : BoardDomain → Call
   markAll : Call
-  power : Bool → Call
-  shows : Bool → Call
-  brightness : ℕ → ℕ → ℕ → Call
-  pixel : FrameView → ℕ → ℕ → Call
-  view : FrameView → ℕ → Call
-  row : Memory → ℕ → Call
-  compare : Call
-
--- "a fresh panel, equally set, .. and an all-zero frame": one configuration, and so the switch as both set it.
-abbrev pub fresh : PanelConfig → Host
-fresh cfg = record { panel = freshPanel cfg; memory = replicate 76800 0; frame = replicate 76800 0 }
+  sets : Setting → Call
+  looks : Look → Call
 
 -- The number of the refusal that a call is given, 0 for none.
 unfoldable pub refusal : Host → Call → ℕ
@@ -51,13 +72,8 @@ refusal h (segment t bytes cs) = transferRefusal (h .panel) (length (h .memory))
 refusal h publish = publishRefusal (h .panel) (length (h .memory)) (length (h .frame))
 refusal h (reset domain) = memoryRefusal (length (h .memory))
 refusal h markAll = 0
-refusal h (power on) = 0
-refusal h (shows on) = 0
-refusal h (brightness level scale duty) = 0
-refusal h (pixel v x y) = memoryRefusal (length (h .memory))
-refusal h (view v room) = frameRefusal (length (h .memory)) room
-refusal h (row m r) = 0
-refusal h compare = 0
+refusal h (sets x) = 0
+refusal h (looks x) = lookRefusal (length (h .memory)) x
 
 -- A transfer over the host's own memory.
 abbrev pub transfer : ℕ → Bool → List ℕ → Bool → Host → Host
@@ -68,9 +84,9 @@ transfer t dc bytes cs h =
       frame = h .frame;
     }
 
--- The same lists, memory and frame with another controller.
-abbrev pub with : Controller → Host → Host
-with k h = record { panel = withController k (h .panel); memory = h .memory; frame = h .frame }
+-- Lists, memory and frame as they are, the controller changed.
+abbrev pub onController : (Controller → Controller) → Host → Host
+onController f h = record { panel = withController (f (h .panel .controller)) (h .panel); memory = h .memory; frame = h .frame }
 
 -- "each call takes its panel's newest state, and the memory and frame lent to it are always these"
 unfoldable pub step : Host → Call → Host
@@ -88,14 +104,9 @@ step h (reset domain) =
       memory = resetMemory domain (h .memory);
       frame = h .frame;
     }
-step h markAll = with (allMarked (h .panel .controller)) h
-step h (power on) = with (poweredSet on (h .panel .controller)) h
-step h (shows on) = with (showsSet on (h .panel .controller)) h
-step h (brightness level scale duty) = with (brightnessSet level scale duty (h .panel .controller)) h
-step h (pixel v x y) = h
-step h (view v room) = h
-step h (row m r) = h
-step h compare = h
+step h markAll = onController allMarked h
+step h (sets x) = onController (settled x) h
+step h (looks x) = h
 
 -- Calls in turn.
 abbrev pub run : Host → List Call → Host

@@ -5,14 +5,14 @@ use mathlib.Core.Bool.{Bool, true, false, cond, _||_}
 use mathlib.Core.List.{List, [], _∷_, _++_, map, List·Memᴰ}
 use lib.ListN.{take, drop}
 use Rattle.pixels.specs.Run.{rowOf}
-use Rattle.pixels.specs.Spans.{allRows}
-use Rattle.pixels.specs.declared.Span.{Span}
-use Rattle.pixels.specs.declared.Span.the-variants.{Nothing, Rows}
+use Rattle.marks.specs.Rows.{noRows, allRows, isMarked, spanOf}
+use Rattle.marks.specs.declared.Marks.{Marks}
+use Rattle.marks.specs.declared.Span.{Span}
+use Rattle.marks.specs.declared.Span.the-variants.{Nothing, Rows}
 use Rattle.board.specs.Board.{isBoardRail}
 use Rattle.board.specs.declared.PanelConfig.{PanelConfig}
 use Rattle.st7789.specs.Data.{storesIn}
-use Rattle.publishing.specs.Publish.{inSpan}
-use Rattle.hosts.specs.Calls.{Host, Call, commands, segment, publish, reset, markAll, power, shows, brightness, pixel, view, row, compare, fresh, refusal, step, run, Accepted}
+use Rattle.hosts.specs.Calls.{Host, Call, commands, segment, publish, reset, markAll, sets, looks, freshHost, refusal, step, run, Accepted}
 
 -- How the calls of two hosts go together: made by both alike, or sent by each in parts of its own, or made by either where it likes.
 -- "data times and the moments and number of publishes may also differ"; and so may those of the calls that only look.
@@ -26,20 +26,15 @@ role (segment t bytes cs) = cut
 role publish = free
 role (reset domain) = shared
 role markAll = shared
-role (power on) = shared
-role (shows on) = shared
-role (brightness level scale duty) = shared
-role (pixel v x y) = free
-role (view v room) = free
-role (row m r) = free
-role compare = free
+role (sets x) = shared
+role (looks x) = free
 
 -- "cuts data segments into other parts, at least one each, any CS release on the last": the calls that send `bytes` so, each part at a
 -- time of its own and perhaps empty, with publishes and looks between.
-pub data Parts (cs : Bool) : List ℕ → List Call → Type 0 where
-  rest : {t : ℕ} {bytes : List ℕ} → Parts cs bytes (segment t bytes cs ∷ [])
-  part : {t : ℕ} {bytes more : List ℕ} {calls : List Call} → Parts cs more calls → Parts cs (bytes ++ more) (segment t bytes false ∷ calls)
-  between : {c : Call} {bytes : List ℕ} {calls : List Call} → role c ≡ free → Parts cs bytes calls → Parts cs bytes (c ∷ calls)
+pub data InParts (cs : Bool) : List ℕ → List Call → Type 0 where
+  rest : {t : ℕ} {bytes : List ℕ} → InParts cs bytes (segment t bytes cs ∷ [])
+  part : {t : ℕ} {bytes more : List ℕ} {calls : List Call} → InParts cs more calls → InParts cs (bytes ++ more) (segment t bytes false ∷ calls)
+  between : {c : Call} {bytes : List ℕ} {calls : List Call} → role c ≡ free → InParts cs bytes calls → InParts cs bytes (c ∷ calls)
 
 -- "They make the same calls in the same order, .. command segments at the same times": a host that makes `calls` does what `agreed` says,
 -- with its own cuts, data times, publishes and looks.
@@ -48,7 +43,7 @@ pub data Makes : List Call → List Call → Type 0 where
   besides : {c : Call} {agreed calls : List Call} → role c ≡ free → Makes agreed calls → Makes agreed (c ∷ calls)
   same : {c : Call} {agreed calls : List Call} → role c ≡ shared → Makes agreed calls → Makes (c ∷ agreed) (c ∷ calls)
   sends :
-      {t : ℕ} {bytes : List ℕ} {cs : Bool} {agreed parts calls : List Call} → Parts cs bytes parts → Makes agreed calls →
+      {t : ℕ} {bytes : List ℕ} {cs : Bool} {agreed parts calls : List Call} → InParts cs bytes parts → Makes agreed calls →
       Makes (segment t bytes cs ∷ agreed) (parts ++ calls)
 
 -- A call before others, left out where it is free.
@@ -79,13 +74,8 @@ noted h s (segment t bytes cs) = record { all = s .all; rows = s .rows ++ map ro
 noted h s publish = nothingSince
 noted h s (reset domain) = record { all = isBoardRail domain || s .all; rows = s .rows }
 noted h s markAll = record { all = true; rows = s .rows }
-noted h s (power on) = s
-noted h s (shows on) = s
-noted h s (brightness level scale duty) = s
-noted h s (pixel v x y) = s
-noted h s (view v room) = s
-noted h s (row m r) = s
-noted h s compare = s
+noted h s (sets x) = s
+noted h s (looks x) = s
 
 -- And after calls in turn.
 abbrev pub sinceFrom : Host → Since → List Call → Since
@@ -94,7 +84,7 @@ sinceFrom h s (c ∷ calls) = sinceFrom (step h c) (noted h s c) calls
 
 -- A fresh panel and an all-zero frame: nothing was stored, and nothing is to be copied.
 abbrev pub since : PanelConfig → List Call → Since
-since cfg calls = sinceFrom (fresh cfg) nothingSince calls
+since cfg calls = sinceFrom (freshHost cfg) nothingSince calls
 
 -- "the smallest holding every row": it holds each of them, and its first and its last are among them.
 pub record Smallest (first last : ℕ) (rows : List ℕ) : Type 0 where
@@ -109,8 +99,12 @@ Hull (Rows first last) rows = Smallest first last rows
 
 -- "the span marked for copying: the smallest holding every row stored to since the last publish, or all 320 rows after a board-rail
 -- reset or a mark-all since then"
-abbrev pub Marked : Span → Since → Type 0
-Marked span s = cond (s .all) (span ≡ allRows) (Hull span (s .rows))
+abbrev pub Marked : Marks → Since → Type 0
+Marked m s = cond (s .all) (m ≡ allRows) (Hull (spanOf m) (s .rows))
+
+-- What is "marked for copying" at a host.
+abbrev pub marksOf : Host → Marks
+marksOf h = h .panel .controller .marks
 
 -- A row of a memory or a frame.
 abbrev pub rowIn : ℕ → List ℕ → List ℕ
@@ -118,8 +112,8 @@ rowIn r memory = take 240 (drop (r * 240) memory)
 
 -- "the rows where frame and panel differ lie in the span marked for copying"
 pub record Moment (h : Host) (s : Since) : Type 0 where
-  pub differing : (r : ℕ) → (rowIn r (h .frame) ≡ rowIn r (h .memory) → ⊥) → inSpan r (h .panel .controller .marks .dirty) ≡ true
-  pub span : Marked (h .panel .controller .marks .dirty) s
+  pub differing : (r : ℕ) → (rowIn r (h .frame) ≡ rowIn r (h .memory) → ⊥) → isMarked (marksOf h) r ≡ true
+  pub span : Marked (marksOf h) s
 
 -- "both frames equal both panel memories, and registers, trace, warnings and counts agree": the panels are equal whole.
 pub record Agree (a b : Host) : Type 0 where
@@ -130,24 +124,26 @@ pub record Agree (a b : Host) : Type 0 where
 
 -- "At every moment": after the calls `made`, whichever are left.
 abbrev pub EveryMoment : PanelConfig → List Call → Type 0
-EveryMoment cfg calls = (made left : List Call) → calls ≡ made ++ left → Moment (run (fresh cfg) made) (since cfg made)
+EveryMoment cfg calls = (made left : List Call) → calls ≡ made ++ left → Moment (run (freshHost cfg) made) (since cfg made)
 
 -- What demand 3 promises of two hosts, "and then a last publish at each". That publish is no call of theirs: that it is not refused is
--- promised too.
+-- promised too, and that it leaves nothing marked.
 pub record Demand3 (cfg : PanelConfig) (us vs : List Call) : Type 0 where
-  pub last-a : refusal (run (fresh cfg) us) publish ≡ 0
-  pub last-b : refusal (run (fresh cfg) vs) publish ≡ 0
-  pub agree : Agree (step (run (fresh cfg) us) publish) (step (run (fresh cfg) vs) publish)
+  pub last-a : refusal (run (freshHost cfg) us) publish ≡ 0
+  pub last-b : refusal (run (freshHost cfg) vs) publish ≡ 0
+  pub empty-a : marksOf (step (run (freshHost cfg) us) publish) ≡ noRows
+  pub empty-b : marksOf (step (run (freshHost cfg) vs) publish) ≡ noRows
+  pub agree : Agree (step (run (freshHost cfg) us) publish) (step (run (freshHost cfg) vs) publish)
   pub moments-a : EveryMoment cfg us
   pub moments-b : EveryMoment cfg vs
 
 -- "Two hosts each have a fresh panel, equally set": either may cut.
 abbrev pub TwoHosts : Type 0
 TwoHosts =
-    (cfg : PanelConfig) (agreed us vs : List Call) → Makes agreed us → Makes agreed vs → Accepted (fresh cfg) us → Accepted (fresh cfg) vs →
+    (cfg : PanelConfig) (agreed us vs : List Call) → Makes agreed us → Makes agreed vs → Accepted (freshHost cfg) us → Accepted (freshHost cfg) vs →
     Demand3 cfg us vs
 
 -- "One cuts": the agreed calls are those of the first host, without what is free.
 abbrev pub OneCuts : Type 0
 OneCuts =
-    (cfg : PanelConfig) (us vs : List Call) → Makes (owed us) vs → Accepted (fresh cfg) us → Accepted (fresh cfg) vs → Demand3 cfg us vs
+    (cfg : PanelConfig) (us vs : List Call) → Makes (owed us) vs → Accepted (freshHost cfg) us → Accepted (freshHost cfg) vs → Demand3 cfg us vs

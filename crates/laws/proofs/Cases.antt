@@ -5,8 +5,9 @@ use Rattle.lists.specs.Params.{differ}
 use Rattle.chip.specs.Begin.{freshChip}
 use Rattle.st7789.specs.Refusals.{badState, transferRefusal}
 use Rattle.st7789.specs.Entries.{freshController, emptyLists}
+use Rattle.marks.specs.Rows.{noRows, ofSpan, marksBad}
 use Rattle.laws.specs.Cases.{cases, allGiven}
 
 pub all-given : allGiven cases ≡ true
-unfolding cases differ freshChip badState transferRefusal freshController emptyLists
+unfolding cases differ freshChip badState transferRefusal freshController emptyLists noRows ofSpan marksBad
 all-given = refl

@@ -8,13 +8,12 @@ use borrow.Author.Tests.{ltb-true, ltb-false}
 use lib.Dec.{ltb, eqb}
 use lib.ListN.{length, set, getD}
 use lib.Seq.{getD-set-same}
+use Rattle.chip.specs.Site.{siteOf}
 use Rattle.pixels.proofs.Laws.{counted-few}
 use Rattle.lists.specs.Fixed.{places}
 use Rattle.lists.specs.declared.TraceRecord.{TraceRecord}
 use Rattle.lists.specs.declared.Current.{Current}
 use Rattle.lists.specs.declared.Current.the-variants.{Nothing, At}
-use Rattle.chip.specs.declared.InForce.{InForce}
-use Rattle.chip.specs.declared.InForce.the-variants.{Code}
 use Rattle.lists.proofs.Somes.{each-fails}
 use Rattle.status.specs.Tests.{high}
 use Rattle.st7789.specs.Command.{begunRecord, begun, begunAll, controllerReleased, released}
@@ -26,7 +25,8 @@ use Rattle.st7789.specs.declared.St7789p3.{St7789p3}
 use Rattle.st7789.proofs.Tests.{current-placed}
 use Rattle.st7789.proofs.Accepted.{none-refused}
 use Rattle.laws.specs.Valid.{Good, heldBy, Bounded}
-use Rattle.laws.proofs.Stays.{logsBy, traceBy, dataBy, begun-good}
+use Rattle.laws.proofs.DataKinds.{by-kind}
+use Rattle.laws.proofs.Stays.{logsBy, traceBy, begun-good}
 
 pub record Grown (n : ℕ) (s r : St7789p3) : Type 0 where
   pub commands : r .controller .counts .commands ≤ s .controller .counts .commands + n
@@ -89,8 +89,32 @@ held-after f (At i) l n long h grows =
     omega (arith, e, grows (getD l i noRecord))
 
 data-grown : (bytes : List ℕ) (s : St7789p3) → Good s → Grown (length bytes) s (dataIn bytes s)
-unfolding dataIn ran taken
-data-grown bytes s g = go (s .controller .chip .decoder .«in_pixels») (s .controller .chip .decoder .cmd)
+unfolding ran taken
+data-grown bytes s g =
+    by-kind bytes s (λ run r. Grown (length bytes) s r)
+    (λ f.
+    record {
+      commands = omega arith;
+      ramwrs = omega arith;
+      pixels = omega (arith, counted-few (siteOf (s .controller .chip)) (s .controller .chip .walk) bytes);
+      dropped = omega arith;
+      held = held (morePixels (length bytes)) (λ r. omega arith);
+    })
+    (record {
+      commands = omega arith;
+      ramwrs = omega arith;
+      pixels = omega arith;
+      dropped = omega arith;
+      held = held (λ r. r) (λ r. omega arith);
+    })
+    (λ c.
+    record {
+      commands = omega arith;
+      ramwrs = omega arith;
+      pixels = omega arith;
+      dropped = omega arith;
+      held = held (moreParams bytes) (λ r. omega arith);
+    })
   where
     -- The current record, whatever the data is for.
     held :
@@ -98,32 +122,6 @@ data-grown bytes s g = go (s .controller .chip .decoder .«in_pixels») (s .cont
         pixelsHeld (s .controller .logs .current) (onCurrent f (s .controller .logs .current) (s .records)) ≤ heldBy s + length bytes
     held f grows =
         held-after f (s .controller .logs .current) (s .records) (length bytes) (g .sized .records) (current-placed s (g .fine)) grows
-
-    go : (b : Bool) (f : InForce) → Grown (length bytes) s (dataBy b f bytes s)
-    go true f =
-        record {
-          commands = omega arith;
-          ramwrs = omega arith;
-          pixels = omega (arith, counted-few (s .controller .chip .window) (s .controller .chip .walk) bytes);
-          dropped = omega arith;
-          held = held (morePixels (length bytes)) (λ r. omega arith);
-        }
-    go false InForce.Nothing =
-        record {
-          commands = omega arith;
-          ramwrs = omega arith;
-          pixels = omega arith;
-          dropped = omega arith;
-          held = held (λ r. r) (λ r. omega arith);
-        }
-    go false (Code c) =
-        record {
-          commands = omega arith;
-          ramwrs = omega arith;
-          pixels = omega arith;
-          dropped = omega arith;
-          held = held (moreParams bytes) (λ r. omega arith);
-        }
 
 -- After a release no record is current.
 released-grown : (n : ℕ) (s r : St7789p3) → Grown n s r → Grown n s (released r)

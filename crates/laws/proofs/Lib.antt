@@ -1,4 +1,5 @@
-pub mod Entries
+pub mod DataKinds
+pub mod Within
 pub mod Traces
 pub mod Stays
 pub mod Reach
@@ -6,3 +7,12 @@ pub mod Bare
 pub mod Counts
 pub mod Meaning
 pub mod Cases
+pub mod Records
+pub mod Cuts
+pub mod Stores
+pub mod Marks
+pub mod Contents
+pub mod SameRefused
+pub mod Stepped
+pub mod SameMoved
+pub mod SameKept

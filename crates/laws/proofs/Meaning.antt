@@ -1,7 +1,6 @@
--- What the lists mean: the used part after a command, and after data for it. `Same` is an equivalence.
-use Prim.Native.Nat.{ℕ, _+_, _≤_, _<_}
-use mathlib.Core.Path.{_≡_, refl, sym, ap, ap₂, _∙_}
-use mathlib.Core.Bool.{Bool, true, false}
+-- What the lists mean: the used part after a command, and after data for it.
+use Prim.Native.Nat.{ℕ, _≤_, _<_}
+use mathlib.Core.Path.{_≡_, refl, ap, ap₂, _∙_}
 use mathlib.Core.List.{List, [], _∷_, _++_, map}
 use lib.Dec.{ltb}
 use lib.ListN.{length, take, set, getD}
@@ -11,14 +10,12 @@ use Rattle.lists.specs.Fixed.{places, used}
 use Rattle.lists.specs.declared.Current.the-variants.{At}
 use Rattle.lists.proofs.Fixed.{used-all}
 use Rattle.timing.specs.Lint.{brokenBy, rulesOf}
-use Rattle.chip.specs.declared.InForce.{InForce}
-use Rattle.chip.specs.declared.InForce.the-variants.{Code}
 use Rattle.st7789.specs.Parts.{traceOf, warningsOf}
 use Rattle.st7789.specs.Command.{warning, linted, begunRecord, begun}
 use Rattle.st7789.specs.Data.{noRecord, onCurrent, ran, taken, recordData, dataIn}
 use Rattle.st7789.specs.declared.St7789p3.{St7789p3}
-use Rattle.laws.specs.Same.{Same}
-use Rattle.laws.proofs.Stays.{warned-by, traced-by, dataBy}
+use Rattle.laws.proofs.DataKinds.{by-kind}
+use Rattle.laws.proofs.Stays.{warned-by, traced-by}
 
 module _ (s : St7789p3) where
   -- Warnings: those of the broken rules behind the old ones, and no more than 128.
@@ -48,73 +45,8 @@ module _ (s : St7789p3) where
   unfolding dataIn ran taken
   current-means bytes i e h =
       let f = recordData bytes (s .controller) in
-      ap₂ (λ n k. take n (onCurrent f k (s .records))) (go (s .controller .chip .decoder .«in_pixels») (s .controller .chip .decoder .cmd)) e
+      ap₂ (λ n k. take n (onCurrent f k (s .records))) traced e
       ∙ take-set-lt (s .controller .logs .traced) (s .records) i (f (getD (s .records) i noRecord)) h
     where
-      go : (b : Bool) (f : InForce) → dataBy b f bytes s .controller .logs .traced ≡ s .controller .logs .traced
-      go true f = refl
-      go false InForce.Nothing = refl
-      go false (Code c) = refl
-
-pub same-refl : (s : St7789p3) → Same s s
-same-refl s =
-    record {
-      cfg = refl;
-      power = refl;
-      registers = refl;
-      window = refl;
-      walk = refl;
-      cmd = refl;
-      params = refl;
-      applied = refl;
-      run = refl;
-      times = refl;
-      counts = refl;
-      dirty = refl;
-      current = refl;
-      stored = refl;
-      trace = refl;
-      warnings = refl;
-    }
-
-pub same-sym : {s r : St7789p3} → Same s r → Same r s
-same-sym h =
-    record {
-      cfg = sym (h .cfg);
-      power = sym (h .power);
-      registers = sym (h .registers);
-      window = sym (h .window);
-      walk = sym (h .walk);
-      cmd = sym (h .cmd);
-      params = sym (h .params);
-      applied = sym (h .applied);
-      run = sym (h .run);
-      times = sym (h .times);
-      counts = sym (h .counts);
-      dirty = sym (h .dirty);
-      current = sym (h .current);
-      stored = sym (h .stored);
-      trace = sym (h .trace);
-      warnings = sym (h .warnings);
-    }
-
-pub same-trans : {s r q : St7789p3} → Same s r → Same r q → Same s q
-same-trans h k =
-    record {
-      cfg = h .cfg ∙ k .cfg;
-      power = h .power ∙ k .power;
-      registers = h .registers ∙ k .registers;
-      window = h .window ∙ k .window;
-      walk = h .walk ∙ k .walk;
-      cmd = h .cmd ∙ k .cmd;
-      params = h .params ∙ k .params;
-      applied = h .applied ∙ k .applied;
-      run = h .run ∙ k .run;
-      times = h .times ∙ k .times;
-      counts = h .counts ∙ k .counts;
-      dirty = h .dirty ∙ k .dirty;
-      current = h .current ∙ k .current;
-      stored = h .stored ∙ k .stored;
-      trace = h .trace ∙ k .trace;
-      warnings = h .warnings ∙ k .warnings;
-    }
+      traced : dataIn bytes s .controller .logs .traced ≡ s .controller .logs .traced
+      traced = by-kind bytes s (λ run r. r .controller .logs .traced ≡ s .controller .logs .traced) (λ f. refl) refl (λ c. refl)

@@ -7,78 +7,43 @@ use native.Mathlib.Omega.{arith}
 use borrow.Author.Tests.{ltb-true, ltb-false, le-ltb}
 use lib.Dec.{ltb}
 use lib.ListN.{length, set}
-use Rattle.geometry.specs.Bounds.{windowBad, pointerBad}
-use Rattle.geometry.specs.declared.Window.{Window}
-use Rattle.geometry.specs.declared.Pointer.{Pointer}
-use Rattle.geometry.proofs.Bounds.{WindowWithin, PointerWithin}
-use Rattle.pixels.specs.Spans.{spanBad}
-use Rattle.pixels.specs.declared.Span.{Span}
-use Rattle.pixels.specs.declared.Span.the-variants.{Rows}
-use Rattle.pixels.proofs.Bounds.{walk-within, Ordered, span-ordered}
+use Rattle.marks.specs.Rows.{marksBad}
+use Rattle.marks.specs.declared.Marks.{Marks}
+use Rattle.pixels.proofs.Bounds.{walk-within, marked-good}
+use Rattle.chip.specs.Site.{siteOf}
 use Rattle.lists.specs.Fixed.{Fixed, places, pushAll}
 use Rattle.lists.specs.Params.{noParams, filled, differ, tooLong}
-use Rattle.lists.specs.Entries.{some, storedLong, recordLong, placeOf}
+use Rattle.lists.specs.Entries.{some, storedLong, recordLong, isStored, placeOf}
 use Rattle.lists.specs.declared.Params.{Params}
 use Rattle.lists.specs.declared.Stored.{Stored}
 use Rattle.lists.specs.declared.TraceRecord.{TraceRecord}
 use Rattle.lists.specs.declared.Current.the-variants.{Nothing, At}
-use Rattle.lists.proofs.Bools.{neither}
-use Rattle.lists.proofs.Fixed.{count-all}
+use Rattle.lists.proofs.Somes.{none-set}
+use Rattle.lists.proofs.Fixed.{count-all, places-all}
 use Rattle.lists.proofs.Filling.{count-filled, length-filled}
 use Rattle.lists.proofs.Alike.{params-same, filled-alike}
 use Rattle.timing.specs.Lint.{brokenBy, rulesOf}
 use Rattle.chip.specs.Begin.{chipBegun, chipReleased}
-use Rattle.chip.specs.Apply.{due, chipFilled, chipApplied, appliedIfDue, chipTaken}
+use Rattle.chip.specs.Apply.{chipTaken}
 use Rattle.chip.specs.declared.Chip.{Chip}
 use Rattle.chip.specs.declared.InForce.{InForce}
 use Rattle.chip.specs.declared.InForce.the-variants.{Code}
 use Rattle.chip.proofs.Bounds.{ChipWithin, begun-within, released-within, taken-within}
+use Rattle.chip.proofs.Cuts.{taken-params}
 use Rattle.st7789.specs.Parts.{traceOf, warningsOf, whole}
 use Rattle.st7789.specs.Command.{warning, linted, begunRecord, begun, begunAll, controllerReleased, released}
-use Rattle.st7789.specs.Data.{onCurrent, morePixels, moreParams, walkOver, walkedChip, ran, taken, takenFor, listedFor, storedFor, dataIn}
+use Rattle.st7789.specs.Data.{onCurrent, morePixels, moreParams, walkOver, walkedChip, ran, taken, storedFor, dataIn}
 use Rattle.st7789.specs.Refusals.{countBad}
 use Rattle.st7789.specs.Entries.{moved}
 use Rattle.st7789.specs.declared.Counts.{Counts}
 use Rattle.st7789.specs.declared.Logs.{Logs}
+use Rattle.st7789.specs.declared.Controller.{Controller}
 use Rattle.st7789.specs.declared.St7789p3.{St7789p3}
 use Rattle.st7789.proofs.Tests.{clause, not-bad}
 use Rattle.laws.specs.Valid.{Good}
-use Rattle.laws.proofs.Entries.{none-set}
+use Rattle.laws.proofs.Within.{window-within, within-window, pointer-within, within-pointer}
+use Rattle.laws.proofs.DataKinds.{dataBy, by-kind}
 use Rattle.laws.proofs.Traces.{Lined, unwatched, pushed, changed}
-
--- The tests as bounds, and back.
-window-within : (w : Window) → windowBad w ≡ false → WindowWithin w
-window-within w e =
-    let t = neither (ltb 319 (w .xs)) _ e in
-    let u = neither (ltb 319 (w .xe)) _ (t .1) in
-    let v = neither (ltb 319 (w .ys)) _ (u .1) in
-    record {
-      xs = ltb-false 319 (w .xs) (t .0);
-      xe = ltb-false 319 (w .xe) (u .0);
-      ys = ltb-false 319 (w .ys) (v .0);
-      ye = ltb-false 319 (w .ye) (v .1);
-    }
-
-within-window : (w : Window) → WindowWithin w → windowBad w ≡ false
-within-window w h = rw (le-ltb 319 (w .xs) (h .xs), le-ltb 319 (w .xe) (h .xe), le-ltb 319 (w .ys) (h .ys), le-ltb 319 (w .ye) (h .ye))
-
-pointer-within : (p : Pointer) → pointerBad p ≡ false → PointerWithin p
-pointer-within p e =
-    let t = neither (ltb 319 (p .x)) (ltb 319 (p .y)) e in
-    record { x = ltb-false 319 (p .x) (t .0); y = ltb-false 319 (p .y) (t .1) }
-
-within-pointer : (p : Pointer) → PointerWithin p → pointerBad p ≡ false
-within-pointer p h = rw (le-ltb 319 (p .x) (h .x), le-ltb 319 (p .y) (h .y))
-
-span-within : (d : Span) → spanBad d ≡ false → Ordered d
-span-within Span.Nothing e = tt
-span-within (Rows first last) e =
-    let t = neither (ltb last first) (ltb 319 last) e in
-    (ltb-false last first (t .0), ltb-false 319 last (t .1))
-
-within-span : (d : Span) → Ordered d → spanBad d ≡ false
-within-span Span.Nothing o = refl
-within-span (Rows first last) o = rw (le-ltb last first (o .0), le-ltb 319 last (o .1))
 
 -- A good state by its parts: the chip's bounds, the trace, and the rest of the clauses.
 module _ (s : St7789p3) (g : Good s) where
@@ -102,11 +67,11 @@ module _ (s : St7789p3) (g : Good s) where
 
 pub put-good :
     (s : St7789p3) → ChipWithin (s .controller .chip) → length (s .controller .chip .decoder .params .bytes) ≡ 14 →
-    Lined (s .controller .logs .current) (traceOf s) (s .controller .chip .decoder .params) → some storedLong (s .stored) ≡ false →
-    countBad (s .controller .logs .warned) ≡ false → spanBad (s .controller .marks .dirty) ≡ false → Good s
-put-good s w bytes trace stored warned span =
+    length (s .warnings) ≡ places → Lined (s .controller .logs .current) (traceOf s) (s .controller .chip .decoder .params) → some storedLong (s .stored) ≡ false →
+    countBad (s .controller .logs .warned) ≡ false → marksBad (s .controller .marks) ≡ false → Good s
+put-good s w bytes warnings trace stored warned span =
     record {
-      sized = record { records = trace .long; bytes = bytes; each = trace .roomy };
+      sized = record { records = trace .long; bytes = bytes; each = trace .roomy; warnings = warnings };
       fine =
           not-bad s (
             within-window (s .controller .chip .window) (w .window),
@@ -126,6 +91,11 @@ few-warnings c t s g =
     let h : s .controller .logs .warned ≤ places = ltb-false places (s .controller .logs .warned) (clause s (g .fine) 6) in
     let ws = map (warning c t) (rulesOf (brokenBy (s .controller .chip .times) (s .controller .chip .registers .colmod) c t)) in
     le-ltb places (pushAll places (warningsOf s) ws .count) (rw (count-all places (warningsOf s) ws) (omega arith))
+
+warnings-long : (c t : ℕ) (s : St7789p3) → length (linted c t s .places) ≡ length (s .warnings)
+warnings-long c t s =
+    places-all places (warningsOf s)
+    (map (warning c t) (rulesOf (brokenBy (s .controller .chip .times) (s .controller .chip .registers .colmod) c t)))
 
 no-params-same : differ noParams noParams ≡ false
 no-params-same = params-same noParams noParams refl refl
@@ -159,23 +129,14 @@ pub begun-good : (c t : ℕ) (s : St7789p3) → Good s → Good (begun c t s)
 unfolding begun chipBegun
 begun-good c t s g =
     let b = ltb (s .controller .logs .traced) places in
-    put-good _ (begun-within c t (s .controller .chip) (chip-within s g)) refl (lined-by c t s g b refl) (clause s (g .fine) 3)
+    put-good _ (begun-within c t (s .controller .chip) (chip-within s g)) refl (warnings-long c t s ∙ g .sized .warnings) (lined-by c t s g b refl) (clause s (g .fine) 3)
     (ap countBad (warned-by c t s b) ∙ few-warnings c t s g) (clause s (g .fine) 7)
 
 pub all-good : (t : ℕ) (bytes : List ℕ) (s : St7789p3) → Good s → Good (begunAll t bytes s)
 all-good t [] s g = g
 all-good t (c ∷ bytes) s g = all-good t bytes (begun c t s) (begun-good c t s g)
 
--- Data, by whether a run is on and by the command in force.
-abbrev pub dataBy : Bool → InForce → List ℕ → St7789p3 → St7789p3
-dataBy run f bytes s =
-    record {
-      controller = cond run (ran bytes (s .controller)) (takenFor f bytes (s .controller));
-      stored = cond run (s .stored) (storedFor f (filled (s .controller .chip .decoder .params) bytes) (s .stored));
-      records = onCurrent (λ r. cond run (morePixels (length bytes) r) (listedFor f bytes r)) (s .controller .logs .current) (s .records);
-      warnings = s .warnings;
-    }
-
+-- Data.
 module _ (bytes : List ℕ) (s : St7789p3) (g : Good s) where
   filled-short : (p : Params) → tooLong p ≡ false → tooLong (filled p bytes) ≡ false
   filled-short p e =
@@ -183,55 +144,59 @@ module _ (bytes : List ℕ) (s : St7789p3) (g : Good s) where
 
   -- What it leaves good, whatever it is for: the chip, the counts, the span, the stored lists and the current record are its own.
   data-parts :
-      (chip : Chip) (counts : Counts) (dirty : Span) (f : TraceRecord → TraceRecord) (lists : List Stored) → ChipWithin chip →
-      length (chip .decoder .params .bytes) ≡ 14 → spanBad dirty ≡ false → some storedLong lists ≡ false →
+      (chip : Chip) (counts : Counts) (marks : Marks) (f : TraceRecord → TraceRecord) (lists : List Stored) → ChipWithin chip →
+      length (chip .decoder .params .bytes) ≡ 14 → marksBad marks ≡ false → some storedLong lists ≡ false →
       ((r : TraceRecord) → recordLong r ≡ false → recordLong (f r) ≡ false) →
       ((r : TraceRecord) → recordLong r ≡ false → length (r .params .bytes) ≡ 14 → differ (r .params) (s .controller .chip .decoder .params) ≡ false →
       differ (f r .params) (chip .decoder .params) ≡ false) →
       ((r : TraceRecord) → length (r .params .bytes) ≡ 14 → length (f r .params .bytes) ≡ 14) →
       Good
       (record {
-        controller = whole (s .controller .cfg) (s .controller .power) chip counts dirty (s .controller .logs);
+        controller = whole (s .controller .cfg) (s .controller .power) chip counts marks (s .controller .logs);
         stored = lists;
         records = onCurrent f (s .controller .logs .current) (s .records);
         warnings = s .warnings;
       })
-  data-parts chip counts dirty f lists w long span short keeps goes fits =
-      put-good _ w long
+  data-parts chip counts marks f lists w long span short keeps goes fits =
+      put-good _ w long (g .sized .warnings)
       (changed f (traceOf s) (s .controller .chip .decoder .params) (chip .decoder .params) keeps goes fits (s .controller .logs .current) (lined s g))
       short (clause s (g .fine) 6) span
 
-  taken-params : (c : ℕ) (k : Chip) → chipTaken c bytes k .decoder .params ≡ filled (k .decoder .params) bytes
-  unfolding chipTaken appliedIfDue
-  taken-params c k = go (due c (chipFilled bytes k .decoder))
-    where
-      go : (b : Bool) → cond b (chipApplied c (chipFilled bytes k)) (chipFilled bytes k) .decoder .params ≡ filled (k .decoder .params) bytes
-      go true = refl
-      go false = refl
+  -- A stored list is short too, where the command is a stored one.
+  stored-short : (b : Bool) (i : ℕ) (e : Stored) → storedLong e ≡ false → some storedLong (cond b (set (s .stored) i e) (s .stored)) ≡ false
+  stored-short true i e h = none-set storedLong (s .stored) i e (clause s (g .fine) 3) h
+  stored-short false i e h = clause s (g .fine) 3
 
   pub data-good : Good (dataIn bytes s)
-  unfolding dataIn ran taken
-  data-good = go (s .controller .chip .decoder .«in_pixels») (s .controller .chip .decoder .cmd)
+  unfolding ran taken chipTaken
+  data-good = by-kind bytes s (λ run r. Good r) in-run lost for-command
     where
-      go : (b : Bool) (f : InForce) → Good (dataBy b f bytes s)
-      go true f =
-          let k = s .controller in
-          let w = chip-within s g in
-          let pointer = walk-within (k .chip .window) (k .chip .walk) bytes (w .window) (w .pointer) in
-          let span =
-          span-ordered (k .chip .window) (k .chip .registers .madctl) (k .chip .walk) bytes (k .marks .dirty)
-          (span-within (k .marks .dirty) (clause s (g .fine) 7))
-          in
-          data-parts (walkedChip (walkOver k bytes .walk) (k .chip)) _ (walkOver k bytes .dirty) (morePixels (length bytes)) (s .stored)
-          (record { window = w .window; pointer = pointer; params = w .params }) (g .sized .bytes) (within-span (walkOver k bytes .dirty) span) (clause s (g .fine) 3) (λ r e. e) (λ r e h d. d) (λ r h. h)
-      go false InForce.Nothing =
-          data-parts (s .controller .chip) _ _ (λ r. r) (s .stored) (chip-within s g) (g .sized .bytes) (clause s (g .fine) 7) (clause s (g .fine) 3) (λ r e. e) (λ r e h d. d) (λ r h. h)
-      go false (Code c) =
-          let p = s .controller .chip .decoder .params in
-          let e = taken-params c (s .controller .chip) in
-          data-parts (chipTaken c bytes (s .controller .chip)) _ _ (moreParams bytes) (storedFor (Code c) (filled p bytes) (s .stored))
-          (taken-within c bytes (s .controller .chip) (chip-within s g)) (ap (λ x. length (x .bytes)) e ∙ length-filled p bytes ∙ g .sized .bytes)
-          (clause s (g .fine) 7) (none-set storedLong (s .stored) (placeOf c) _ (clause s (g .fine) 3) (filled-short p (clause s (g .fine) 2)))
+      k : Controller
+      k = s .controller
+
+      w : ChipWithin (k .chip)
+      w = chip-within s g
+
+      in-run : (f : InForce) → Good (dataBy true f bytes s)
+      in-run f =
+          let pointer = walk-within (siteOf (k .chip)) (k .chip .walk) bytes (w .window) (w .pointer) in
+          let marks = marked-good (siteOf (k .chip)) (k .chip .walk) bytes (k .marks) (clause s (g .fine) 7) in
+          data-parts (walkedChip (walkOver k bytes .walk) (k .chip)) _ (walkOver k bytes .marks) (morePixels (length bytes)) (s .stored)
+          (record { window = w .window; pointer = pointer; params = w .params }) (g .sized .bytes) marks
+          (clause s (g .fine) 3) (λ r e. e) (λ r e h d. d) (λ r h. h)
+
+      lost : Good (dataBy false InForce.Nothing bytes s)
+      lost =
+          data-parts (k .chip) _ _ (λ r. r) (s .stored) w (g .sized .bytes) (clause s (g .fine) 7) (clause s (g .fine) 3) (λ r e. e)
+          (λ r e h d. d) (λ r h. h)
+
+      for-command : (c : ℕ) → Good (dataBy false (Code c) bytes s)
+      for-command c =
+          let p = k .chip .decoder .params in
+          let e = taken-params c bytes (k .chip) in
+          data-parts (chipTaken c bytes (k .chip)) _ _ (moreParams bytes) (storedFor (Code c) (filled p bytes) (s .stored))
+          (taken-within c bytes (k .chip) w) (ap (λ x. length (x .bytes)) e ∙ length-filled p bytes ∙ g .sized .bytes)
+          (clause s (g .fine) 7) (stored-short (isStored c) (placeOf c) _ (filled-short p (clause s (g .fine) 2)))
           (λ r. filled-short (r .params))
           (λ r l h d. ap (differ (filled (r .params) bytes)) e ∙ filled-alike (r .params) p bytes (ltb-false 14 (r .params .count) l) h (g .sized .bytes) d)
           (λ r h. length-filled (r .params) bytes ∙ h)
@@ -240,7 +205,7 @@ module _ (bytes : List ℕ) (s : St7789p3) (g : Good s) where
 pub released-good : (s : St7789p3) → Good s → Good (released s)
 unfolding controllerReleased chipReleased
 released-good s g =
-    put-good _ (released-within (s .controller .chip) (chip-within s g)) refl (unwatched (lined s g) noParams) (clause s (g .fine) 3)
+    put-good _ (released-within (s .controller .chip) (chip-within s g)) refl (g .sized .warnings) (unwatched (lined s g) noParams) (clause s (g .fine) 3)
     (clause s (g .fine) 6) (clause s (g .fine) 7)
 
 -- A whole transfer.

@@ -17,10 +17,9 @@ use Rattle.lists.specs.declared.TraceRecord.{TraceRecord}
 use Rattle.lists.specs.declared.Current.{Current}
 use Rattle.lists.specs.declared.Current.the-variants.{Nothing, At}
 use Rattle.lists.proofs.Bools.{neither}
-use Rattle.lists.proofs.Somes.{each-fails}
+use Rattle.lists.proofs.Somes.{each-fails, none-append, none-set}
 use Rattle.st7789.specs.Data.{noRecord, onCurrent}
 use Rattle.st7789.specs.Refusals.{countBad, currentBad}
-use Rattle.laws.proofs.Entries.{none-append, none-set}
 
 -- Every place of the trace has room for 14 bytes.
 abbrev pub Roomy : List TraceRecord → Type 0
@@ -65,6 +64,30 @@ module _ {k : Current} {f : Fixed TraceRecord} {p : Params} (v : Lined k f p) wh
         current = rw (eq-eqb (n + 1) (n + 1) refl, getD-set-same l n r noRecord (omega (arith, free, v .long))) d;
       }
 
+-- What is known of the current record: it is the last used one, short enough, with the parameters in force.
+pub record Lasting (f : Fixed TraceRecord) (p : Params) (i : ℕ) : Type 0 where
+  pub last : i + 1 ≡ f .count
+  pub few : f .count ≤ places
+  pub short : recordLong (getD (f .places) i noRecord) ≡ false
+  pub room : length (getD (f .places) i noRecord .params .bytes) ≡ 14
+  pub alike : differ (getD (f .places) i noRecord .params) p ≡ false
+
+pub lasting : {f : Fixed TraceRecord} {p : Params} {i : ℕ} → Lined (At i) f p → Lasting f p i
+lasting {f} {p} {i} v =
+    let n = f .count in
+    let l = f .places in
+    let t = neither (not (eqb (i + 1) n)) (differ (getD l i noRecord .params) p) (v .current) in
+    let last : i + 1 ≡ n = eqb-true (i + 1) n (not-false (eqb (i + 1) n) (t .0)) in
+    let h : i < n = omega (arith, last) in
+    let b : n ≤ places = ltb-false places n (v .few) in
+    record {
+      last = last;
+      few = b;
+      short = rw (getD-take n l i noRecord h) at (each-fails recordLong (take n l) (v .short) i noRecord refl);
+      room = v .roomy i (omega (arith, h, b));
+      alike = t .1;
+    }
+
 -- The current record changed: it stays short enough, and goes with what is now in force.
 module _
     (g : TraceRecord → TraceRecord) (f : Fixed TraceRecord) (p q : Params)
@@ -78,16 +101,14 @@ module _
         let n = f .count in
         let l = f .places in
         let r = getD l i noRecord in
-        let t = neither (not (eqb (i + 1) n)) (differ (r .params) p) (v .current) in
-        let last : i + 1 ≡ n = eqb-true (i + 1) n (not-false (eqb (i + 1) n) (t .0)) in
-        let h : i < n = omega (arith, last) in
-        let b : n ≤ places = ltb-false places n (v .few) in
-        let e : recordLong r ≡ false = rw (getD-take n l i noRecord h) at (each-fails recordLong (take n l) (v .short) i noRecord refl) in
-        let room = v .roomy i (omega (arith, h, b)) in
+        let c = lasting v in
+        let h : i < n = omega (arith, c .last) in
         record {
           long = length-set l i (g r) ∙ v .long;
-          roomy = roomy-set l i (g r) (v .long) (fits r room) (v .roomy);
-          short = rw (take-set-lt n l i (g r) h) (none-set recordLong (take n l) i (g r) (v .short) (keeps r e));
+          roomy = roomy-set l i (g r) (v .long) (fits r (c .room)) (v .roomy);
+          short = rw (take-set-lt n l i (g r) h) (none-set recordLong (take n l) i (g r) (v .short) (keeps r (c .short)));
           few = v .few;
-          current = rw (eq-eqb (i + 1) n last, getD-set-same l i (g r) noRecord (omega (arith, h, b, v .long))) (goes r e room (t .1));
+          current =
+              rw (eq-eqb (i + 1) n (c .last), getD-set-same l i (g r) noRecord (omega (arith, h, c .few, v .long)))
+              (goes r (c .short) (c .room) (c .alike));
         }

@@ -1,20 +1,21 @@
--- Examples: 01's table of refusals, case by case: states that no call reaches, each with one field at or past a limit, and the number
--- that a transfer over so many cells and bytes is given.
+-- Examples: 01's table of refusals, case by case: a fresh panel with a part at or past a limit, whether or not a call reaches it, and the
+-- number that a transfer over so many cells and bytes is given.
 use Prim.Native.Nat.{ℕ, _+_, _^_}
 use mathlib.Core.Bool.{Bool, true, false, _&&_}
 use mathlib.Core.List.{List, [], _∷_}
 use lib.ListN.{set, replicate}
 use lib.Dec.{eqb}
 use Rattle.pixels.specs.declared.Carry.the-variants.{Empty}
-use Rattle.pixels.specs.declared.Span.{Span}
-use Rattle.pixels.specs.declared.Span.the-variants.{Rows}
+use Rattle.marks.specs.Rows.{ofSpan}
+use Rattle.marks.specs.declared.Span.{Span}
+use Rattle.marks.specs.declared.Span.the-variants.{Rows}
 use Rattle.lists.specs.Params.{noParams}
 use Rattle.lists.specs.declared.Params.{Params}
 use Rattle.lists.specs.declared.Current.{Current}
 use Rattle.lists.specs.declared.Current.the-variants.{Nothing, At}
 use Rattle.board.specs.Board.{switchedTo}
 use Rattle.chip.specs.declared.InForce.{InForce}
-use Rattle.st7789.specs.Parts.{withController, withChip, withCounts, withDirty, withLogs}
+use Rattle.st7789.specs.Parts.{withController, withChip, withCounts, withMarks, withLogs}
 use Rattle.st7789.specs.Entries.{freshPanel}
 use Rattle.st7789.specs.Refusals.{transferRefusal}
 use Rattle.st7789.specs.declared.Controller.{Controller}
@@ -33,17 +34,17 @@ allGiven [] = true
 allGiven (c ∷ cs) = eqb (transferRefusal (c .state) (c .cells) (c .bytes)) (c .number) && allGiven cs
 
 -- A fresh panel; each state below is one with a part set.
-abbrev pub fresh : St7789p3
-fresh = freshPanel (switchedTo true)
+abbrev pub plain : St7789p3
+plain = freshPanel (switchedTo true)
 
--- A panel with a change to its controller.
-abbrev pub with : (Controller → Controller) → St7789p3 → St7789p3
-with f s = withController (f (s .controller)) s
+-- A panel with its controller changed.
+abbrev pub onController : (Controller → Controller) → St7789p3 → St7789p3
+onController f s = withController (f (s .controller)) s
 
 -- Window and pointer.
 abbrev pub cornered : ℕ → ℕ → ℕ → ℕ → ℕ → ℕ → St7789p3
 cornered xs xe ys ye x y =
-    with
+    onController
     (λ k.
     withChip
     (record {
@@ -54,7 +55,7 @@ cornered xs xe ys ye x y =
       times = k .chip .times;
     })
     k)
-    fresh
+    plain
 
 -- A parameter list of n bytes, the first of which is this.
 abbrev pub list : ℕ → ℕ → Params
@@ -63,7 +64,7 @@ list n byte = record { bytes = set (replicate 14 0) 0 byte; count = n }
 -- The parameters in force.
 abbrev pub inForce : Params → St7789p3 → St7789p3
 inForce p s =
-    with
+    onController
     (λ k.
     withChip
     (record {
@@ -80,10 +81,10 @@ inForce p s =
 abbrev pub stored : Bool → Params → St7789p3
 stored present p =
     record {
-      controller = fresh .controller;
-      stored = set (fresh .stored) 11 (record { present = present; params = p });
-      records = fresh .records;
-      warnings = fresh .warnings;
+      controller = plain .controller;
+      stored = set (plain .stored) 11 (record { present = present; params = p });
+      records = plain .records;
+      warnings = plain .warnings;
     }
 
 -- `used` records, of which the first has these parameters and pixel bytes, and a current one.
@@ -98,15 +99,15 @@ traced used p pixels current s =
 
 -- How many warnings are used.
 abbrev pub warned : ℕ → St7789p3
-warned n = with (λ k. withLogs (record { traced = k .logs .traced; warned = n; current = k .logs .current }) k) fresh
+warned n = onController (λ k. withLogs (record { traced = k .logs .traced; warned = n; current = k .logs .current }) k) plain
 
 -- The four counts.
 abbrev pub counted : ℕ → ℕ → ℕ → ℕ → St7789p3
-counted a b c d = with (withCounts (record { commands = a; «ramwr_count» = b; «pixels_written» = c; «dropped_params» = d })) fresh
+counted a b c d = onController (withCounts (record { commands = a; «ramwr_count» = b; «pixels_written» = c; «dropped_params» = d })) plain
 
 -- The dirty span.
 abbrev pub spanned : Span → St7789p3
-spanned d = with (withDirty d) fresh
+spanned d = onController (withMarks (ofSpan d)) plain
 
 -- A transfer of no bytes over the right memory.
 abbrev pub given : ℕ → St7789p3 → Case
@@ -115,7 +116,7 @@ given n s = record { state = s; cells = 76800; bytes = 0; number = n }
 -- The table.
 unfoldable pub cases : List Case
 cases =
-    given 0 fresh
+    given 0 plain
     -- "a window corner or pointer coordinate is above 319"
     ∷ given 0 (cornered 319 319 319 319 319 319)
     ∷ given 1 (cornered 320 239 0 319 0 0)
@@ -125,17 +126,17 @@ cases =
     ∷ given 1 (cornered 0 239 0 319 320 0)
     ∷ given 1 (cornered 0 239 0 319 0 320)
     -- "a parameter list (in force, stored, or in a used trace record) is longer than 14"; an absent place and an unused record have none
-    ∷ given 0 (inForce (list 14 0) fresh)
-    ∷ given 1 (inForce (list 15 0) fresh)
+    ∷ given 0 (inForce (list 14 0) plain)
+    ∷ given 1 (inForce (list 15 0) plain)
     ∷ given 0 (stored true (list 14 0))
     ∷ given 1 (stored true (list 15 0))
     ∷ given 0 (stored false (list 15 0))
-    ∷ given 0 (traced 1 (list 14 0) 0 Nothing fresh)
-    ∷ given 1 (traced 1 (list 15 0) 0 Nothing fresh)
-    ∷ given 0 (traced 0 (list 15 0) 0 Nothing fresh)
+    ∷ given 0 (traced 1 (list 14 0) 0 Nothing plain)
+    ∷ given 1 (traced 1 (list 15 0) 0 Nothing plain)
+    ∷ given 0 (traced 0 (list 15 0) 0 Nothing plain)
     -- "trace or warnings count above 128"
-    ∷ given 0 (traced 128 noParams 0 Nothing fresh)
-    ∷ given 1 (traced 129 noParams 0 Nothing fresh)
+    ∷ given 0 (traced 128 noParams 0 Nothing plain)
+    ∷ given 1 (traced 129 noParams 0 Nothing plain)
     ∷ given 0 (warned 128)
     ∷ given 1 (warned 129)
     -- "the dirty span has first above last, or last above 319"
@@ -144,28 +145,28 @@ cases =
     ∷ given 0 (spanned (Rows 0 319))
     ∷ given 1 (spanned (Rows 0 320))
     -- "a current trace record isn't the last used one, or its parameters differ from those in force"
-    ∷ given 0 (traced 1 noParams 0 (At 0) fresh)
-    ∷ given 1 (traced 2 noParams 0 (At 0) fresh)
-    ∷ given 1 (traced 1 noParams 0 (At 1) fresh)
-    ∷ given 1 (traced 0 noParams 0 (At 0) fresh)
-    ∷ given 0 (inForce (list 1 7) (traced 1 (list 1 7) 0 (At 0) fresh))
-    ∷ given 1 (inForce (list 1 7) (traced 1 (list 1 8) 0 (At 0) fresh))
-    ∷ given 1 (inForce (list 1 7) (traced 1 (list 2 7) 0 (At 0) fresh))
-    ∷ given 0 (inForce (list 0 7) (traced 1 (list 0 8) 0 (At 0) fresh))
+    ∷ given 0 (traced 1 noParams 0 (At 0) plain)
+    ∷ given 1 (traced 2 noParams 0 (At 0) plain)
+    ∷ given 1 (traced 1 noParams 0 (At 1) plain)
+    ∷ given 1 (traced 0 noParams 0 (At 0) plain)
+    ∷ given 0 (inForce (list 1 7) (traced 1 (list 1 7) 0 (At 0) plain))
+    ∷ given 1 (inForce (list 1 7) (traced 1 (list 1 8) 0 (At 0) plain))
+    ∷ given 1 (inForce (list 1 7) (traced 1 (list 2 7) 0 (At 0) plain))
+    ∷ given 0 (inForce (list 0 7) (traced 1 (list 0 8) 0 (At 0) plain))
     -- COUNT_HIGH: "above 2^63"; of the pixel bytes only the current record's
     ∷ given 0 (counted (2 ^ 63) (2 ^ 63) (2 ^ 63) (2 ^ 63))
     ∷ given 5 (counted (2 ^ 63 + 1) 0 0 0)
     ∷ given 5 (counted 0 (2 ^ 63 + 1) 0 0)
     ∷ given 5 (counted 0 0 (2 ^ 63 + 1) 0)
     ∷ given 5 (counted 0 0 0 (2 ^ 63 + 1))
-    ∷ given 0 (traced 1 noParams (2 ^ 63) (At 0) fresh)
-    ∷ given 5 (traced 1 noParams (2 ^ 63 + 1) (At 0) fresh)
-    ∷ given 0 (traced 1 noParams (2 ^ 63 + 1) Nothing fresh)
+    ∷ given 0 (traced 1 noParams (2 ^ 63) (At 0) plain)
+    ∷ given 5 (traced 1 noParams (2 ^ 63 + 1) (At 0) plain)
+    ∷ given 0 (traced 1 noParams (2 ^ 63 + 1) Nothing plain)
     -- BAD_MEMORY and TOO_LONG: "Exactly 65,536 bytes .. accepted"
-    ∷ record { state = fresh; cells = 76799; bytes = 0; number = 2 }
-    ∷ record { state = fresh; cells = 76801; bytes = 0; number = 2 }
-    ∷ record { state = fresh; cells = 76800; bytes = 65536; number = 0 }
-    ∷ record { state = fresh; cells = 76800; bytes = 65537; number = 4 }
+    ∷ record { state = plain; cells = 76799; bytes = 0; number = 2 }
+    ∷ record { state = plain; cells = 76801; bytes = 0; number = 2 }
+    ∷ record { state = plain; cells = 76800; bytes = 65536; number = 0 }
+    ∷ record { state = plain; cells = 76800; bytes = 65537; number = 4 }
     -- "Tests run in number order"
     ∷ record { state = warned 129; cells = 0; bytes = 65537; number = 1 }
     ∷ record { state = counted (2 ^ 63 + 1) 0 0 0; cells = 0; bytes = 65537; number = 2 }

@@ -13,6 +13,7 @@ pub record Sized (s : St7789p3) : Type 0 where
   pub records : length (s .records) ≡ places
   pub bytes : length (s .controller .chip .decoder .params .bytes) ≡ 14
   pub each : (i : ℕ) → i < places → length (getD (s .records) i noRecord .params .bytes) ≡ 14
+  pub warnings : length (s .warnings) ≡ places
 
 -- A good state: not BAD_STATE, with arrays of the lengths that the types say.
 pub record Good (s : St7789p3) : Type 0 where

@@ -101,9 +101,9 @@ impl Params {
     pub fn append(mut self, bytes: &[u8]) -> Params
         ensures answer { λ r. ⌜ r ≡ filled self (now (bytes .entry)) ⌝ }
     {
-        let taken = lesser(bytes.len(), room(self.count));
+        let fit = lesser(bytes.len(), room(self.count));
         let mut i = 0;
-        while i < taken {
+        while i < fit {
             let at = wide(self.count);
             self.bytes[at] = bytes[i];
             self.count = self.count + 1;

@@ -12,7 +12,7 @@ use Rattle.st7789.specs.Command.{begun, begunAll, controllerReleased}
 use Rattle.st7789.specs.Data.{ran, taken, takenFor, dataIn}
 use Rattle.st7789.specs.Entries.{moved, transferred}
 use Rattle.st7789.specs.declared.St7789p3.{St7789p3}
-use Rattle.no_room.specs.Examples.{Call, Panel}
+use Rattle.no_room.specs.Panels.{Call, Panel}
 use Rattle.no_room.specs.Kept.{Transfer, KeepsTransfer}
 
 -- The count of commands.

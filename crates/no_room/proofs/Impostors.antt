@@ -8,9 +8,13 @@ use lib.ListN.{length, getD, replicate}
 use borrow.Author.Tests.{eqb-false}
 use Rattle.status.specs.Numbers.{number}
 use Rattle.st7789.specs.Refusals.{transferRefusal}
+use Rattle.st7789.specs.declared.Answer.{Answer}
+use Rattle.st7789.specs.declared.St7789p3.{St7789p3}
+use Rattle.publishing.specs.declared.Published.{Published}
 use Rattle.publishing.specs.Publish.{publishRefusal, published, publishedFrame}
-use Rattle.no_room.specs.Examples.{Call, Panel, fresh, after, segment}
-use Rattle.no_room.specs.Kept.{Transfer, Done, KeepsTransfer, leftBy, Publish, Shown, KeepsPublish, first, second}
+use Rattle.no_room.specs.Panels.{Call, Panel, fresh, after}
+use Rattle.no_room.specs.Examples.{command, segment}
+use Rattle.no_room.specs.Kept.{Transfer, KeepsTransfer, leftBy, Publish, KeepsPublish}
 use Rattle.no_room.proofs.Model.{model}
 use Rattle.no_room.proofs.Kept.{as-promised}
 
@@ -18,11 +22,21 @@ use Rattle.no_room.proofs.Kept.{as-promised}
 apart : {A : Type 0} (look : A → ℕ) (m n : ℕ) {x y : A} → look x ≡ m → look y ≡ n → eqb m n ≡ false → x ≡ y → ⊥
 apart look m n p q d e = eqb-false m n d (sym p ∙ ap look e ∙ q)
 
+-- P1's two transfers, "2C" and "data F8 00 07 E0".
+abbrev pub first : Call
+first = command 0x2C
+
+abbrev pub second : Call
+second = segment (0xF8 ∷ 0x00 ∷ 0x07 ∷ 0xE0 ∷ [])
+
 abbrev begunPanel : Panel
 begunPanel = after fresh first
 
 abbrev cell : ℕ → List ℕ → ℕ
 cell i memory = getD memory i 0
+
+abbrev pixels : St7789p3 → ℕ
+pixels s = s .controller .counts .«pixels_written»
 
 first-accepted : transferRefusal (fresh .state) (length (fresh .memory)) 1 ≡ 0
 unfolding model
@@ -35,6 +49,14 @@ first-stores-nothing = refl
 second-stores : cell 0 (after begunPanel second .memory) ≡ 0xF800
 unfolding model
 second-stores = refl
+
+no-pixels : pixels (begunPanel .state) ≡ 0
+unfolding model
+no-pixels = refl
+
+two-pixels : pixels (after begunPanel second .state) ≡ 2
+unfolding model
+two-pixels = refl
 
 none-counted : fresh .state .controller .counts .commands ≡ 0
 unfolding model
@@ -53,11 +75,11 @@ module _ (f : Transfer) (keeps : KeepsTransfer f) where
   pub refuses-not-all : ((p : Panel) (c : Call) → number (f p c .answer .status) ≡ 0 → ⊥) → ⊥
   refuses-not-all refuses = refuses fresh first (keeps fresh first .0 ∙ first-accepted)
 
-  -- "One fixed answer"
-  pub not-fixed : (d : Done) → ((p : Panel) (c : Call) → f p c ≡ d) → ⊥
+  -- "One fixed answer", whatever memory does
+  pub not-fixed : (d : Answer) → ((p : Panel) (c : Call) → f p c .answer ≡ d) → ⊥
   not-fixed d fixed =
-      apart (λ d. cell 0 (d .memory)) 0 0xF800 (ap (cell 0) (keeps fresh first .1 .1) ∙ first-stores-nothing)
-      (ap (cell 0) (keeps begunPanel second .1 .1) ∙ second-stores) refl (fixed fresh first ∙ sym (fixed begunPanel second))
+      apart (λ a. pixels (a .panel)) 0 2 (ap pixels (keeps fresh first .1 .0) ∙ no-pixels) (ap pixels (keeps begunPanel second .1 .0) ∙ two-pixels)
+      refl (fixed fresh first ∙ sym (fixed begunPanel second))
 
   -- "a model that changes nothing": neither the state nor memory stays.
   pub state-changes : ((p : Panel) (c : Call) → f p c .answer .panel ≡ p .state) → ⊥
@@ -109,9 +131,13 @@ publish-accepted : refusal stored blank ≡ 0
 unfolding model
 publish-accepted = refl
 
-fresh-shows : cell 0 (frameAfter fresh blank) ≡ 0
+fresh-published : pixels (panelAfter fresh blank .state) ≡ 0
 unfolding model
-fresh-shows = refl
+fresh-published = refl
+
+stored-published : pixels (panelAfter stored blank .state) ≡ 2
+unfolding model
+stored-published = refl
 
 stored-shows : cell 0 (frameAfter stored blank) ≡ 0xF800
 unfolding model
@@ -136,11 +162,11 @@ module _ (f : Publish) (keeps : KeepsPublish f) where
   pub publishes-some : ((p : Panel) (frame : List ℕ) → number (f p frame .answer .status) ≡ 0 → ⊥) → ⊥
   publishes-some refuses = refuses stored blank (keeps stored blank .0 ∙ publish-accepted)
 
-  -- "One fixed answer"
-  pub publishes-not-one : (d : Shown) → ((p : Panel) (frame : List ℕ) → f p frame ≡ d) → ⊥
+  -- "One fixed answer", whatever the frame does
+  pub publishes-not-one : (d : Published) → ((p : Panel) (frame : List ℕ) → f p frame .answer ≡ d) → ⊥
   publishes-not-one d fixed =
-      apart (λ d. cell 0 (d .frame)) 0 0xF800 (ap (cell 0) (shown fresh blank) ∙ fresh-shows) (ap (cell 0) (shown stored blank) ∙ stored-shows) refl
-      (fixed fresh blank ∙ sym (fixed stored blank))
+      apart (λ a. pixels (a .panel)) 0 2 (ap pixels (keeps fresh blank .1 .0) ∙ fresh-published) (ap pixels (keeps stored blank .1 .0) ∙ stored-published)
+      refl (fixed fresh blank ∙ sym (fixed stored blank))
 
   -- "a model that changes nothing"
   pub frame-changes : ((p : Panel) (frame : List ℕ) → f p frame .frame ≡ frame) → ⊥

@@ -12,7 +12,7 @@ use Rattle.lists.specs.Entries.{some}
 use Rattle.lists.proofs.Bools.{neither}
 use Rattle.st7789.specs.Refusals.{badState, countsOf, transferRefusal}
 use Rattle.publishing.specs.Publish.{publishRefusal, published, publishedSpan, publishedFlags, publishedFrame}
-use Rattle.no_room.specs.Examples.{after}
+use Rattle.no_room.specs.Panels.{after}
 use Rattle.no_room.specs.Kept.{Transfer, KeepsTransfer, leftBy, Publish, KeepsPublish}
 use Rattle.no_room.proofs.Only.{statusOf}
 

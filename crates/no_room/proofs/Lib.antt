@@ -7,3 +7,4 @@ pub mod Counted
 pub mod Model
 pub mod Examples
 pub mod Impostors
+pub mod SameSeen

@@ -1,5 +1,7 @@
 -- One name that opens every definition with which the examples compute.
 use Rattle.geometry.specs.Place.{mapOf, outcome, next}
+use Rattle.marks.specs.Rows.{noRows, allRows, mark, spanOf, marksBad}
+use Rattle.pixels.specs.Bytes.{arrival}
 use Rattle.pixels.specs.Run.{stores, walkAfter, pixelsCounted}
 use Rattle.lists.specs.Params.{filled, differ}
 use Rattle.boot.specs.Boot.{fits, comparedFrom}
@@ -10,9 +12,9 @@ use Rattle.st7789.specs.Command.{begun, controllerReleased}
 use Rattle.st7789.specs.Data.{ran, taken, dataIn}
 use Rattle.st7789.specs.Refusals.{badState, transferRefusal}
 use Rattle.st7789.specs.Entries.{freshController, emptyLists, moved, transferred, transferMemory}
-use Rattle.views.specs.Light.{dimmed}
+use Rattle.light.specs.Light.{dimmed}
 use Rattle.publishing.specs.Publish.{publishRefusal, published, publishedFrame}
 
 unfoldable pub model : Unit {0}
-unfolding mapOf outcome next stores walkAfter pixelsCounted filled differ fits comparedFrom brokenBy timesAfter freshChip chipBegun chipReleased appliedIfDue chipTaken begun controllerReleased ran taken dataIn badState transferRefusal freshController emptyLists moved transferred transferMemory dimmed publishRefusal published publishedFrame
+unfolding mapOf outcome next noRows allRows mark spanOf marksBad arrival stores walkAfter pixelsCounted filled differ fits comparedFrom brokenBy timesAfter freshChip chipBegun chipReleased appliedIfDue chipTaken begun controllerReleased ran taken dataIn badState transferRefusal freshController emptyLists moved transferred transferMemory dimmed publishRefusal published publishedFrame
 model = tt

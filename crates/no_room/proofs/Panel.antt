@@ -1,4 +1,4 @@
--- Every public operation of st7789, views and publishing: its promise, which is its contract, leaves no room.
+-- Every public operation of st7789, light, views and publishing: its promise, which is its contract, leaves no room.
 use Prim.Native.Nat.{ℕ}
 use mathlib.Core.Path.{_≡_, refl}
 use mathlib.Core.List.{List}
@@ -17,7 +17,9 @@ use Rattle.st7789.proofs.St7789p3.transfer as transfer
 use Rattle.st7789.proofs.St7789p3.reset as reset
 use Rattle.st7789.proofs.St7789p3.new as new
 use Rattle.st7789.proofs.St7789p3.bad_state as bad-state
-use Rattle.views.proofs.dim as dim
+use Rattle.light.proofs.dim as dim
+use Rattle.light.proofs.seen as seen
+use Rattle.light.proofs.fill as fill
 use Rattle.views.proofs.pixel as pixel
 use Rattle.views.proofs.frame as frame
 use Rattle.views.proofs.row as row
@@ -74,6 +76,12 @@ bad-state-one κs args x y u v p q = (same p q, refl)
 
 pub dim-one : Only dim.ended dim.Reads.Learnt
 dim-one κs args x y u v p q = (same p q, refl)
+
+pub seen-one : Only seen.ended seen.Reads.Learnt
+seen-one κs args x y u v p q = (same p q, refl)
+
+pub fill-one : Only fill.ended fill.Reads.Learnt
+fill-one κs args x y u v p q = (refl, λ i. (tt, (tt, (tt, (same p q i, tt)))))
 
 pub pixel-one : Only pixel.ended pixel.Reads.Learnt
 pixel-one κs args x y u v p q = (λ i. record { pixel = same (p .1) (q .1) i; status = told (x .status) (y .status) (p .0) (q .0) i }, refl)

@@ -1,10 +1,11 @@
--- Every public operation of digests, status, geometry, pixels, engine, lists, timing, board and chip: its promise, which is its contract, leaves no room.
+-- Every public operation of digests, status, geometry, marks, pixels, engine, lists, timing, board and chip: its promise, which is its contract, leaves no room.
 use mathlib.Core.Path.{refl}
 use Rattle.digests.proofs.digest as digest
 use Rattle.status.proofs.number as number
 use Rattle.status.proofs.accepted as accepted
 use Rattle.status.proofs.some_high as some-high
 use Rattle.status.proofs.memory_status as memory-status
+use Rattle.status.proofs.view_status as view-status
 use Rattle.status.proofs.transfer_status as transfer-status
 use Rattle.geometry.proofs.col_max as col-max
 use Rattle.geometry.proofs.row_max as row-max
@@ -13,14 +14,20 @@ use Rattle.geometry.proofs.place as place
 use Rattle.geometry.proofs.advance as advance
 use Rattle.geometry.proofs.window_bad as window-bad
 use Rattle.geometry.proofs.pointer_bad as pointer-bad
-use Rattle.pixels.proofs.mark_row as mark-row
+use Rattle.geometry.proofs.row_at as row-at
+use Rattle.marks.proofs.Marks.none as marks-none
+use Rattle.marks.proofs.Marks.all as marks-all
+use Rattle.marks.proofs.Marks.of_span as of-span
+use Rattle.marks.proofs.Marks.mark_row as mark-row
+use Rattle.marks.proofs.Marks.mark_rows as mark-rows
+use Rattle.marks.proofs.Marks.span as span
+use Rattle.marks.proofs.Marks.bad as marks-bad
+use Rattle.pixels.proofs.bytewise.joined as joined
+use Rattle.pixels.proofs.bytewise.arrive as arrive
 use Rattle.pixels.proofs.store_at as store-at
 use Rattle.pixels.proofs.write_pixels as write-bytes
-use Rattle.pixels.proofs.all_rows as all-rows
-use Rattle.pixels.proofs.span_bad as span-bad
 use Rattle.pixels.proofs.clear as clear
 use Rattle.engine.proofs.write_pixels as write-pixels
-use Rattle.engine.proofs.walk_pixels as walk-pixels
 use Rattle.lists.proofs.Params.empty as empty
 use Rattle.lists.proofs.Params.append as append
 use Rattle.lists.proofs.Params.differs as differs
@@ -42,6 +49,7 @@ use Rattle.board.proofs.Power.set_powered as power-set-powered
 use Rattle.board.proofs.Power.set_brightness as power-set-brightness
 use Rattle.board.proofs.is_board_rail as is-board-rail
 use Rattle.chip.proofs.Chip.fresh as chip-fresh
+use Rattle.chip.proofs.Chip.site as site
 use Rattle.chip.proofs.Chip.begin as begin
 use Rattle.chip.proofs.Chip.take as take
 use Rattle.chip.proofs.Chip.release as release
@@ -62,6 +70,9 @@ some-high-one κs args x y u v p q = (same p q, refl)
 
 pub memory-status-one : Only memory-status.ended memory-status.Reads.Learnt
 memory-status-one κs args x y u v p q = (told x y p q, refl)
+
+pub view-status-one : Only view-status.ended view-status.Reads.Learnt
+view-status-one κs args x y u v p q = (told x y p q, refl)
 
 pub transfer-status-one : Only transfer-status.ended transfer-status.Reads.Learnt
 transfer-status-one κs args x y u v p q = (told x y p q, refl)
@@ -87,26 +98,47 @@ window-bad-one κs args x y u v p q = (same p q, refl)
 pub pointer-bad-one : Only pointer-bad.ended pointer-bad.Reads.Learnt
 pointer-bad-one κs args x y u v p q = (same p q, refl)
 
+pub row-at-one : Only row-at.ended row-at.Reads.Learnt
+row-at-one κs args x y u v p q = (same p q, refl)
+
+pub marks-none-one : Only marks-none.ended marks-none.Reads.Learnt
+marks-none-one κs args x y u v p q = (same p q, refl)
+
+pub marks-all-one : Only marks-all.ended marks-all.Reads.Learnt
+marks-all-one κs args x y u v p q = (same p q, refl)
+
+pub of-span-one : Only of-span.ended of-span.Reads.Learnt
+of-span-one κs args x y u v p q = (same p q, refl)
+
 pub mark-row-one : Only mark-row.ended mark-row.Reads.Learnt
 mark-row-one κs args x y u v p q = (same p q, refl)
+
+pub mark-rows-one : Only mark-rows.ended mark-rows.Reads.Learnt
+mark-rows-one κs args x y u v p q = (same p q, refl)
+
+pub span-one : Only span.ended span.Reads.Learnt
+span-one κs args x y u v p q = (same p q, refl)
+
+pub marks-bad-one : Only marks-bad.ended marks-bad.Reads.Learnt
+marks-bad-one κs args x y u v p q = (same p q, refl)
+
+pub joined-one : Only joined.ended joined.Reads.Learnt
+joined-one κs args x y u v p q = (same p q, refl)
+
+pub arrive-one : Only arrive.ended arrive.Reads.Learnt
+arrive-one κs args x y u v p q = (same p q, refl)
+
+pub site-one : Only site.ended site.Reads.Learnt
+site-one κs args x y u v p q = (same p q, refl)
 
 pub store-at-one : Only store-at.ended store-at.Reads.Learnt
 store-at-one κs args x y u v p q = (refl, λ i. (same p q i, (tt, (tt, tt))))
 
 pub write-bytes-one : Only write-bytes.ended write-bytes.Reads.Learnt
-write-bytes-one κs args x y u v p q = (same (p .0) (q .0), λ i. (tt, (tt, (tt, (tt, (tt, (same (p .1) (q .1) i, tt)))))))
+write-bytes-one κs args x y u v p q = (same (p .0) (q .0), λ i. (tt, (tt, (tt, (tt, (same (p .1) (q .1) i, tt))))))
 
 pub write-pixels-one : Only write-pixels.ended write-pixels.Reads.Learnt
-write-pixels-one κs args x y u v p q = (same (p .0) (q .0), λ i. (tt, (tt, (tt, (tt, (tt, (same (p .1) (q .1) i, tt)))))))
-
-pub walk-pixels-one : Only walk-pixels.ended walk-pixels.Reads.Learnt
-walk-pixels-one κs args x y u v p q = (same p q, refl)
-
-pub all-rows-one : Only all-rows.ended all-rows.Reads.Learnt
-all-rows-one κs args x y u v p q = (same p q, refl)
-
-pub span-bad-one : Only span-bad.ended span-bad.Reads.Learnt
-span-bad-one κs args x y u v p q = (same p q, refl)
+write-pixels-one κs args x y u v p q = (same (p .0) (q .0), λ i. (tt, (tt, (tt, (tt, (same (p .1) (q .1) i, tt))))))
 
 pub clear-one : Only clear.ended clear.Reads.Learnt
 clear-one κs args x y u v p q = (refl, λ i. (same p q i, tt))

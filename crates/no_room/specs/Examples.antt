@@ -1,14 +1,14 @@
--- Examples, and first what specs/Kept is said with too: a call, a panel, and the panel after a call. 01's worked examples as rows of one
--- table: the transfers made on a fresh panel, and a test of what they leave.
+-- Examples: 01's worked examples as rows of one table: the transfers made on a fresh panel, and a test of what they leave.
 use Prim.Native.Nat.{ℕ, _+_, _*_}
 use mathlib.Core.Bool.{Bool, true, false, not, _&&_}
 use mathlib.Core.List.{List, [], _∷_, _++_, foldl, map}
-use lib.ListN.{length, getD, take, replicate}
+use lib.ListN.{getD, take, replicate}
 use lib.Dec.{eqb}
 use Rattle.pixels.specs.declared.Carry.{Carry}
 use Rattle.pixels.specs.declared.Carry.the-variants.{Empty, High}
-use Rattle.pixels.specs.declared.Span.{Span}
-use Rattle.pixels.specs.declared.Span.the-variants.{Rows}
+use Rattle.marks.specs.Rows.{spanOf}
+use Rattle.marks.specs.declared.Span.{Span}
+use Rattle.marks.specs.declared.Span.the-variants.{Rows}
 use Rattle.lists.specs.Fixed.{used}
 use Rattle.lists.specs.Params.{listed, sameNumbers}
 use Rattle.lists.specs.declared.Stored.{Stored}
@@ -18,39 +18,13 @@ use Rattle.sequence.specs.Sequence.{bootSequence}
 use Rattle.boot.specs.Boot.{compared, stepOf}
 use Rattle.sequence.specs.declared.BootStep.{BootStep}
 use Rattle.st7789.specs.Parts.{traceOf}
-use Rattle.board.specs.Board.{switchedTo}
-use Rattle.st7789.specs.Entries.{freshPanel, transferred, transferMemory}
-use Rattle.st7789.specs.declared.St7789p3.{St7789p3}
-use Rattle.views.specs.Light.{dimmed}
-
--- A transfer.
-pub record Call : Type 0 where
-  pub time : ℕ
-  pub dc : Bool
-  pub bytes : List ℕ
-  pub release : Bool
-
--- A panel's state and its memory.
-pub record Panel : Type 0 where
-  pub state : St7789p3
-  pub memory : List ℕ
+use Rattle.light.specs.Light.{dimmed}
+use Rattle.no_room.specs.Panels.{Call, Panel, fresh}
 
 -- A row of the table.
 pub record Row : Type 0 where
   pub calls : List Call
   pub passes : Panel → Bool
-
--- "fresh panel unless said"
-abbrev pub fresh : Panel
-fresh = record { state = freshPanel (switchedTo true); memory = replicate 76800 0 }
-
--- The panel after a call, as `transfer` promises it.
-abbrev pub after : Panel → Call → Panel
-after p c =
-    record {
-      state = transferred (c .time) (c .dc) (c .bytes) (c .release) (length (p .memory)) (p .state);
-      memory = transferMemory (c .dc) (c .bytes) (p .memory) (p .state);
-    }
 
 -- The rows all pass, for a way to make a call.
 abbrev pub allPass : (Panel → Call → Panel) → List Row → Bool
@@ -100,7 +74,7 @@ isRows first last (Rows a b) = eqb a first && eqb b last
 
 -- The rows to publish are these.
 abbrev pub span : ℕ → ℕ → Panel → Bool
-span first last p = isRows first last (p .state .controller .marks .dirty)
+span first last p = isRows first last (spanOf (p .state .controller .marks))
 
 -- A carry is this byte.
 abbrev pub isHigh : ℕ → Carry → Bool

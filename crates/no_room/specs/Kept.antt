@@ -1,6 +1,6 @@
 -- Rules: 01, "Four impostors are tried.": anything of the type of a transfer or of publishing, and what it is for it to keep the promise.
 use Prim.Native.Nat.{ℕ}
-use mathlib.Core.List.{List, [], _∷_}
+use mathlib.Core.List.{List, []}
 use denote.Ref.{RefT}
 use denote.Triple.Entry.{Args}
 use denote.Triple.Clauses.{atExit}
@@ -9,7 +9,7 @@ use Rattle.st7789.specs.declared.PanelMemory.the-variants.{Lent}
 use Rattle.st7789.proofs.St7789p3.transfer as transfer
 use Rattle.publishing.specs.declared.Published.{Published}
 use Rattle.publishing.proofs.publish as publish
-use Rattle.no_room.specs.Examples.{Call, Panel, command, segment}
+use Rattle.no_room.specs.Panels.{Call, Panel}
 
 -- Lent numbers, wherever they stand.
 abbrev lent : List ℕ → RefT (List ℕ)
@@ -58,10 +58,3 @@ KeepsPublish f =
     (p : Panel) (frame : List ℕ) →
     publish.Reads.Learnt ([], ([], tt)) (publishArgs p frame) (f p frame .answer)
     (atExit publish.ended ([], ([], tt)) (publishArgs p frame) (tt, (tt, (f p frame .frame, tt))))
-
--- P1's two transfers, "2C" and "data F8 00 07 E0".
-abbrev pub first : Call
-first = command 0x2C
-
-abbrev pub second : Call
-second = segment (0xF8 ∷ 0x00 ∷ 0x07 ∷ 0xE0 ∷ [])

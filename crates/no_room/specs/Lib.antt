@@ -1,3 +1,4 @@
+pub mod Panels
 pub mod Examples
 pub mod Only
 pub mod Kept

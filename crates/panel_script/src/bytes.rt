@@ -7,10 +7,10 @@ use crate::numbers::Number;
 use crate::words;
 
 // How many bytes a buffer got, or none: then it is 0 and not good, and long where only the room is missing.
-pub struct Expanded {
-    pub count: usize,
-    pub good: bool,
-    pub long: bool,
+pub(crate) struct Expanded {
+    pub(crate) count: usize,
+    pub(crate) good: bool,
+    pub(crate) long: bool,
 }
 
 fn refused(long: bool) -> Expanded
@@ -74,6 +74,7 @@ fn times(piece: &[u8], digits: usize) -> Number {
 
 // A piece's bytes after the first `at` of the buffer, if they find room.
 fn put_piece(piece: &[u8], out: &mut [u8], at: usize) -> Expanded
+    requires { ⌜ at ≤ length (now out) ⌝ }
     ensures { λ r. ⌜ r .count ≤ length (now (out .exit)) ⌝ }
 {
     let digits = words::before(piece, b'*');
@@ -82,14 +83,8 @@ fn put_piece(piece: &[u8], out: &mut [u8], at: usize) -> Expanded
     if size == 0 {
         return refused(false);
     }
-    if digits.len() % 2 != 0 {
+    if (digits.len() % 2 != 0) | !often.good | !all_hex(digits) {
         return refused(false);
-    }
-    if !often.good | !all_hex(digits) {
-        return refused(false);
-    }
-    if out.len() < at {
-        return refused(true);
     }
     let count = often.value as usize;
     if (out.len() - at) / size < count {
@@ -105,7 +100,7 @@ fn put_piece(piece: &[u8], out: &mut [u8], at: usize) -> Expanded
 }
 
 // The bytes of a word, at the buffer's start. Not good where the word makes no sense or the buffer has too little room.
-pub fn expand(word: &[u8], out: &mut [u8]) -> Expanded
+pub(crate) fn expand(word: &[u8], out: &mut [u8]) -> Expanded
     ensures { λ r. ⌜ r .count ≤ length (now (out .exit)) ⌝ }
 {
     if words::is(word, b"-") {

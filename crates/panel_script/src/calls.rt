@@ -1,126 +1,105 @@
 // The calls that change the panel.
-use crate::args;
-use crate::checks;
-use crate::checks::Sense;
-use crate::entries;
+use crate::forms;
+use crate::forms::Line;
+use crate::kinds;
 use crate::looks;
-use crate::names;
-use crate::names::Name;
-use crate::parts;
 use crate::print;
+use crate::sets;
+use board::BoardDomain;
 use board::PanelConfig;
 use lists::PLACES;
+use lists::Params;
 use lists::Warning;
 use st7789::Controller;
 use st7789::PanelMemory;
 use st7789::St7789p3;
 
 // How much of the memory, the frame and the view buffer is lent.
-pub struct Lent {
-    pub memory: usize,
-    pub frame: usize,
-    pub view: usize,
-}
-
-// How many bytes a line has for a transfer, and what sense it makes.
-pub struct Reading {
-    pub count: usize,
-    pub sense: Sense,
-}
-
-// The bytes of a transfer go to a buffer; any other call has none.
-pub fn read(name: Name, line: &[u8], traced: u8, warned: u8, bytes: &mut [u8]) -> Reading {
-    let sense = checks::sense_of(name, line, traced, warned);
-    match name {
-        Name::Transfer | Name::Bare => {
-            let list = args::list(line, 4, bytes);
-            let sense = checks::first(sense, checks::listed(list.good, list.long));
-            Reading {
-                count: list.count,
-                sense,
-            }
-        }
-        _ => Reading { count: 0, sense },
-    }
+pub(crate) struct Lent {
+    pub(crate) memory: usize,
+    pub(crate) frame: usize,
+    pub(crate) view: usize,
 }
 
 // lend memory N, lend frame N, lend view N
-pub fn lend(lent: Lent, name: Name, line: &[u8]) -> Lent {
+fn lend_more(lent: Lent, n: [u64; 8]) -> Lent {
     let mut after = lent;
-    let length = args::number(line, 2) as usize;
-    match name {
-        Name::Lend => {
-            match args::buffer_place(line) {
-                0 => {
-                    after.memory = length;
-                    after
-                }
-                1 => {
-                    after.frame = length;
-                    after
-                }
-                _ => {
-                    after.view = length;
-                    after
-                }
-            }
+    let length = n[2] as usize;
+    match n[1] {
+        11 => {
+            after.frame = length;
+            after
         }
-        _ => lent,
+        12 => {
+            after.memory = length;
+            after
+        }
+        _ => {
+            after.view = length;
+            after
+        }
     }
+}
+
+pub(crate) fn lend(lent: Lent, read: Line) -> Lent {
+    let n = read.numbers;
+    if read.call == forms::LEND {
+        return lend_more(lent, n);
+    }
+    lent
 }
 
 // How much a call is lent: `set` and `dump` take all.
-pub fn lent_to(name: Name, lent: Lent) -> Lent {
-    match name {
-        Name::Set | Name::Dump => Lent {
+pub(crate) fn lent_to(call: usize, lent: Lent) -> Lent {
+    if (call == forms::DUMP) | (forms::SET <= call) {
+        return Lent {
             memory: usize::MAX,
             frame: usize::MAX,
             view: usize::MAX,
-        },
-        _ => lent,
+        };
+    }
+    lent
+}
+
+fn memory_of(call: usize) -> PanelMemory {
+    match call {
+        forms::TRANSFER => PanelMemory::Lent,
+        _ => PanelMemory::Without,
     }
 }
 
-fn send(panel: St7789p3, line: &[u8], bytes: &[u8], memory: &mut [u16]) -> St7789p3 {
-    let time = args::number(line, 1);
-    let answer = panel.transfer(
-        time,
-        args::flag(line, 2),
-        bytes,
-        args::flag(line, 3),
-        PanelMemory::Lent,
-        memory,
-    );
+// transfer TIME DC CS BYTES, bare TIME DC CS BYTES
+fn send(panel: St7789p3, read: Line, bytes: &[u8], memory: &mut [u16]) -> St7789p3 {
+    let n = read.numbers;
+    let dc = n[2] == 1;
+    let release = n[3] == 1;
+    let answer = panel.transfer(n[1], dc, bytes, release, memory_of(read.call), memory);
     let status = answer.status;
     print::refusal(status);
     answer.panel
 }
 
-fn send_bare(panel: St7789p3, line: &[u8], bytes: &[u8]) -> St7789p3 {
-    let mut none = [0u16; 1];
-    let time = args::number(line, 1);
-    let answer = panel.transfer(
-        time,
-        args::flag(line, 2),
-        bytes,
-        args::flag(line, 3),
-        PanelMemory::Without,
-        &mut none[0..0],
-    );
+fn domain(n: u64) -> BoardDomain {
+    match n {
+        0 => BoardDomain::McuRail,
+        1 => BoardDomain::Rtc,
+        2 => BoardDomain::BoardRail,
+        3 => BoardDomain::Battery,
+        4 => BoardDomain::Card,
+        5 => BoardDomain::Flash,
+        _ => BoardDomain::Host,
+    }
+}
+
+fn reset(panel: St7789p3, n: [u64; 8], memory: &mut [u16]) -> St7789p3 {
+    let answer = panel.reset(domain(n[1]), memory);
     let status = answer.status;
     print::refusal(status);
     answer.panel
 }
 
-fn reset(panel: St7789p3, line: &[u8], memory: &mut [u16]) -> St7789p3 {
-    let answer = panel.reset(args::domain(line), memory);
-    let status = answer.status;
-    print::refusal(status);
-    answer.panel
-}
-
-fn fresh(line: &[u8], memory: &mut [u16]) -> St7789p3 {
-    let cfg = PanelConfig::new(args::flag(line, 1));
+fn fresh(n: [u64; 8], memory: &mut [u16]) -> St7789p3 {
+    let cfg = PanelConfig::new(n[1] == 1);
     let answer = St7789p3::new(cfg, memory);
     let status = answer.status;
     print::refusal(status);
@@ -139,8 +118,8 @@ fn publish(panel: St7789p3, memory: &[u16], frame: &mut [u16]) -> St7789p3 {
 fn print_taken(warnings: [Warning; PLACES], count: u8) {
     let mut out = [0u8; 5000];
     let used = report::put_warnings(&mut out, 0, warnings, count);
-    print::line(b"taken", &[count as u64]);
-    print::show(1, &out, used);
+    print::one(b"taken 0\n", count as u64);
+    print::show(&out, used);
 }
 
 fn take_warnings(panel: St7789p3) -> St7789p3 {
@@ -148,12 +127,6 @@ fn take_warnings(panel: St7789p3) -> St7789p3 {
     let warnings = taken.warnings;
     print_taken(warnings, taken.count);
     taken.panel
-}
-
-fn brightness(c: Controller, line: &[u8]) -> Controller {
-    let level = args::long(args::number(line, 1));
-    let scale = args::long(args::number(line, 2));
-    c.set_brightness(level, scale, args::short(args::number(line, 3)))
 }
 
 fn fill(numbers: &mut [u16], value: u16) {
@@ -164,73 +137,65 @@ fn fill(numbers: &mut [u16], value: u16) {
     }
 }
 
-// set memory HHHH, set frame HHHH
-fn set_numbers(line: &[u8], memory: &mut [u16], frame: &mut [u16]) {
-    let value = args::short(args::code(line, 2, 4));
-    match args::buffer_place(line) {
-        0 => fill(memory, value),
-        1 => fill(frame, value),
-        _ => {}
-    }
-}
-
-// set FIELD ..
-fn set(mut panel: St7789p3, line: &[u8]) -> St7789p3 {
-    let field = names::field_of(line);
-    let old = panel.controller;
-    let logs = old.logs;
-    let traced = entries::slot(logs.traced);
-    let warned = entries::slot(logs.warned);
-    let place = entries::stored_slot(line);
-    let record = entries::record(field, line, logs.traced, panel.records[traced]);
-    let warning = entries::warning(field, line, logs.warned, panel.warnings[warned]);
-    let stored = entries::stored(field, line, panel.stored[place]);
-    let controller = parts::controller(old, field, line);
-    panel.controller = controller;
-    panel.stored[place] = stored;
-    panel.records[traced] = record;
-    panel.warnings[warned] = warning;
-    panel
+// A list of bytes as parameters: their number is the count, and the first 14 are kept.
+fn kept(bytes: &[u8]) -> Params {
+    let empty = Params::empty();
+    let mut params = empty.append(bytes);
+    let count = kinds::byte(bytes.len() as u64);
+    params.count = count;
+    params
 }
 
 // What a call leaves of the controller, where it needs nothing that is lent.
-fn control(c: Controller, name: Name, line: &[u8]) -> Controller {
-    match name {
-        Name::Power => c.set_powered(args::flag(line, 1)),
-        Name::Switch => c.set_invon_shows_ram(args::flag(line, 1)),
-        Name::Brightness => brightness(c, line),
-        Name::MarkAll => c.mark_all_dirty(),
-        _ => c,
+fn control(c: Controller, read: Line, params: Params) -> Controller {
+    let n = read.numbers;
+    let on = n[1] == 1;
+    let call = read.call;
+    match call {
+        forms::POWER => c.set_powered(on),
+        forms::SWITCH => c.set_invon_shows_ram(on),
+        forms::BRIGHTNESS => {
+            c.set_brightness(sets::long(n[1]), sets::long(n[2]), kinds::short(n[3]))
+        }
+        forms::MARK_ALL => c.mark_all_dirty(),
+        _ => sets::controller(c, read, params),
     }
 }
 
 // What such a call leaves of the panel.
-fn controlled(mut panel: St7789p3, name: Name, line: &[u8]) -> St7789p3 {
-    let controller = control(panel.controller, name, line);
+fn controlled(mut panel: St7789p3, read: Line, bytes: &[u8]) -> St7789p3 {
+    let controller = control(panel.controller, read, kept(bytes));
     panel.controller = controller;
     panel
 }
 
 // What a call leaves of the panel and of the lent numbers.
-pub fn run(
+pub(crate) fn run(
     panel: St7789p3,
-    name: Name,
-    line: &[u8],
+    read: Line,
     bytes: &[u8],
     memory: &mut [u16],
     frame: &mut [u16],
 ) -> St7789p3 {
-    match name {
-        Name::Transfer => send(panel, line, bytes, memory),
-        Name::Bare => send_bare(panel, line, bytes),
-        Name::Reset => reset(panel, line, memory),
-        Name::Fresh => fresh(line, memory),
-        Name::Publish => publish(panel, memory, frame),
-        Name::TakeWarnings => take_warnings(panel),
-        Name::Set => {
-            set_numbers(line, memory, frame);
-            set(panel, line)
+    let n = read.numbers;
+    let call = read.call;
+    match call {
+        forms::TRANSFER | forms::BARE => send(panel, read, bytes, memory),
+        forms::RESET => reset(panel, n, memory),
+        forms::FRESH => fresh(n, memory),
+        forms::PUBLISH => publish(panel, memory, frame),
+        forms::TAKE_WARNINGS => take_warnings(panel),
+        forms::STORED => sets::stored(panel, n, kept(bytes)),
+        forms::TRACE => sets::trace(panel, read, kept(bytes)),
+        forms::WARNINGS => sets::warnings(panel, read),
+        forms::MEMORY => {
+            fill(memory, kinds::short(n[2]));
+            panel
         }
-        _ => controlled(panel, name, line),
+        forms::FRAME => {
+            fill(frame, kinds::short(n[2]));
+            panel
+        }
+        _ => controlled(panel, read, bytes),
     }
 }

@@ -4,23 +4,20 @@ ghost use Prim.Native.Nat.{_≤_};
 ghost use lib.ListN.{length};
 use board::PanelConfig;
 use calls::Lent;
-use checks::Sense;
-use names::Name;
+use forms::Line;
 use st7789::St7789p3;
 use status::PANEL_PIXELS;
 
-mod args;
 mod bytes;
 mod calls;
-mod checks;
 mod dump;
-mod entries;
+mod forms;
+mod kinds;
 mod looks;
-mod names;
 mod numbers;
-mod parts;
 mod picture;
 mod print;
+mod sets;
 mod words;
 
 // A longer script is run up to the last line that ends within so many bytes; the next line is bad. A longer list of scripts is
@@ -28,15 +25,15 @@ mod words;
 const MAX_SCRIPT: usize = 1048576;
 
 // Too long where a line ends past what a script may have.
-fn within(script: &[u8], end: usize) -> Sense {
+fn within(script: &[u8], end: usize) -> usize {
     let cut = (MAX_SCRIPT < script.len()) & (MAX_SCRIPT <= end);
-    checks::good_if(!cut, Sense::TooLong)
+    forms::wrong_if(cut, forms::TOO_LONG)
 }
 
 // What a call leaves of the panel, with as much of memory, frame and view as it is lent.
 fn call(
     panel: St7789p3,
-    name: Name,
+    read: Line,
     line: &[u8],
     bytes: &[u8],
     lent: Lent,
@@ -44,13 +41,13 @@ fn call(
     frame: &mut [u16],
     view: &mut [u16],
 ) -> St7789p3 {
-    let own = calls::lent_to(name, lent);
-    let cells = args::least(own.memory, memory.len());
-    let framed = args::least(own.frame, frame.len());
-    let seen = args::least(own.view, view.len());
+    let own = calls::lent_to(read.call, lent);
+    let cells = forms::least(own.memory, memory.len());
+    let framed = forms::least(own.frame, frame.len());
+    let seen = forms::least(own.view, view.len());
     looks::look(
         panel,
-        name,
+        read,
         line,
         &memory[..cells],
         &frame[..framed],
@@ -58,8 +55,7 @@ fn call(
     );
     calls::run(
         panel,
-        name,
-        line,
+        read,
         bytes,
         &mut memory[..cells],
         &mut frame[..framed],
@@ -88,20 +84,18 @@ fn run(
         let whole = words::before(words::tail(script, at), b'\n');
         let line = words::before(whole, b'#');
         let end = at + whole.len();
-        let name = names::name_of(line);
         let logs = panel.controller.logs;
-        let read = calls::read(name, line, logs.traced, logs.warned, bytes);
-        let sense = read.sense;
-        let sense = checks::first(within(script, end), sense);
+        let read = forms::read(line, logs.traced, logs.warned, bytes);
+        let wrong = forms::first(within(script, end), read.wrong);
         number += 1;
-        if !checks::good(sense) {
-            print::bad_line(head, number, sense);
+        if wrong != 0 {
+            print::bad_line(head, number, wrong);
             return;
         }
-        lent = calls::lend(lent, name, line);
+        lent = calls::lend(lent, read);
         panel = call(
             panel,
-            name,
+            read,
             line,
             words::head(bytes, read.count),
             lent,
@@ -124,8 +118,8 @@ fn start(head: &[u8], script: &[u8]) {
 
 // Whether a line begins a case: `case NAME`.
 fn begins_case(line: &[u8]) -> bool {
-    let words = words::before(line, b'#');
-    args::has(words, 2) & args::is(words, 0, b"case")
+    let content = words::before(line, b'#');
+    forms::has(content, 2) & words::is(words::word(content, 0), b"case")
 }
 
 // How much of a text stands before the next line that begins a case.
@@ -167,7 +161,7 @@ fn run_list(text: &[u8]) {
         return;
     }
     if !begins_case(words::before(text, b'\n')) {
-        print::bad_line(b"", 1, Sense::NoCase);
+        print::bad_line(b"", 1, forms::NO_CASE);
         return;
     }
     run_cases(text);

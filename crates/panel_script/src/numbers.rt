@@ -5,9 +5,9 @@ ghost use Prim.Native.Nat.{_<_};
 ghost use Rattle.panel_script.specs.Numbers.{digitValue, noNumber, zeroNumber, next, decimalOf, hexOf};
 
 // A number, or none: then it is 0 and not good.
-pub struct Number {
-    pub value: u64,
-    pub good: bool,
+pub(crate) struct Number {
+    pub(crate) value: u64,
+    pub(crate) good: bool,
 }
 
 fn wide(n: u8) -> u64
@@ -26,7 +26,7 @@ fn none() -> Number
 }
 
 // What a digit stands for, 16 for any other byte.
-pub fn digit(byte: u8) -> u64
+pub(crate) fn digit(byte: u8) -> u64
     ensures { λ r. ⌜ r ≡ digitValue byte ⌝ }
 {
     if byte < 48 {
@@ -85,7 +85,7 @@ fn read(word: &[u8], base: u64, most: u64) -> Number
 }
 
 // One or more decimal digits whose value is at most `most`.
-pub fn decimal(word: &[u8], most: u64) -> Number
+pub(crate) fn decimal(word: &[u8], most: u64) -> Number
     ensures { λ r. ⌜ r ≡ decimalOf most (now (word .entry)) ⌝ }
 {
     if word.len() == 0 {
@@ -95,7 +95,7 @@ pub fn decimal(word: &[u8], most: u64) -> Number
 }
 
 // So many lower-case hex digits, whose value fits 64 bits.
-pub fn hex(word: &[u8], digits: usize) -> Number
+pub(crate) fn hex(word: &[u8], digits: usize) -> Number
     ensures { λ r. ⌜ r ≡ hexOf digits (now (word .entry)) ⌝ }
 {
     if word.len() != digits {

@@ -63,10 +63,10 @@ fn print_row(number: usize, row: &[u16]) {
     }
     let mut out = [0u8; 1300];
     let used = put_row(&mut out, number, row);
-    print::show(1, &out, used);
+    print::show(&out, used);
 }
 
-pub fn print(numbers: &[u16]) {
+pub(crate) fn print(numbers: &[u16]) {
     let mut number = 0;
     while number < ROWS {
         print_row(number, views::row(Memory::Panel, number, numbers, numbers));

@@ -1,95 +1,120 @@
 // Text to standard output, and what is wrong to standard error.
-use crate::checks::Sense;
+ghost use Prim.Native.Nat.{_≤_};
 use crate::words;
 use lists::Params;
 use status::Status;
 
-pub fn text(bytes: &[u8]) {
+pub(crate) fn text(bytes: &[u8]) {
     io::write_all(1, bytes);
 }
 
-// A number in decimal after a space.
-pub fn number(n: u64) {
-    text(b" ");
-    io::print_decimal(1, n);
-}
-
-// A byte in hex after a space.
-pub fn byte(b: u8) {
-    text(b" ");
-    io::print_hex(1, b as u64, 2);
-}
-
-// The used part of a buffer, to standard output (1) or standard error (2).
-pub fn show(to: i32, out: &[u8], used: usize) {
+// The used part of a buffer.
+pub(crate) fn show(out: &[u8], used: usize) {
     if used <= out.len() {
-        io::write_all(to, &out[..used]);
+        io::write_all(1, &out[..used]);
     }
 }
 
-// A word and numbers on a line.
-pub fn line(word: &[u8], ns: &[u64]) {
-    let mut out = [0u8; 100];
-    let used = lines::put_line(&mut out, 0, word, ns);
-    show(1, &out, used);
+// What a byte of a form stands for: below 10 for a number, in decimal for 0, else in hex with so many digits.
+fn digits(byte: u8) -> u8 {
+    std::num::wrapping_sub_u8(byte, b'0')
+}
+
+fn at(numbers: [u64; 8], k: usize) -> u64 {
+    if k < 8 {
+        return numbers[k];
+    }
+    0
+}
+
+fn put(out: &mut [u8], used: usize, byte: u8, n: u64) -> usize {
+    let digits = digits(byte);
+    if 9 < digits {
+        return text::put_byte(out, used, byte);
+    }
+    if digits == 0 {
+        return text::put_decimal(out, used, n);
+    }
+    text::put_hex(out, used, n, digits as usize)
+}
+
+// How many numbers a byte of a form takes.
+fn taken(byte: u8) -> usize
+    ensures { λ r. ⌜ r ≤ 1 ⌝ }
+{
+    if digits(byte) < 10 { 1 } else { 0 }
+}
+
+fn put_form(out: &mut [u8], given: &[u8], numbers: [u64; 8]) -> usize {
+    let mut used = 0;
+    let mut k = 0;
+    let mut i = 0;
+    while i < given.len() {
+        let byte = given[i];
+        used = put(out, used, byte, at(numbers, k));
+        k += taken(byte);
+        i += 1;
+    }
+    used
+}
+
+// A text in which a 0 stands for the next number in decimal, and a 2, 4 or 8 for it in hex with so many digits.
+pub(crate) fn form(given: &[u8], numbers: [u64; 8]) {
+    let mut out = [0u8; 200];
+    let used = put_form(&mut out, given, numbers);
+    show(&out, used);
+}
+
+// Such a text with one number.
+pub(crate) fn one(given: &[u8], n: u64) {
+    form(given, [n, 0, 0, 0, 0, 0, 0, 0]);
 }
 
 // A digest after a space, and the line's end.
-pub fn digest(numbers: &[u16]) {
+pub(crate) fn digest(numbers: &[u16]) {
     let halves = digests::digest(numbers);
-    text(b" ");
-    io::print_hex(1, halves.first, 8);
-    io::print_hex(1, halves.second, 8);
-    text(b"\n");
+    form(b" 88\n", [halves.first, halves.second, 0, 0, 0, 0, 0, 0]);
 }
 
 // A list of parameters, and the line's end.
-pub fn params(p: Params) {
+pub(crate) fn params(p: Params) {
     let mut out = [0u8; 100];
     let used = report::put_params(&mut out, 0, p);
-    show(1, &out, used);
+    show(&out, used);
     text(b"\n");
 }
 
-fn put_reason(out: &mut [u8], used: usize, sense: Sense) -> usize {
-    match sense {
-        Sense::Good => used,
-        Sense::UnknownCall => text::put_bytes(out, used, b": unknown call"),
-        Sense::UnknownField => text::put_bytes(out, used, b": unknown field"),
-        Sense::FewWords => text::put_bytes(out, used, b": too few words"),
-        Sense::ManyWords => text::put_bytes(out, used, b": too many words"),
-        Sense::BadWord => text::put_bytes(out, used, b": bad word"),
-        Sense::BadNumber => text::put_bytes(out, used, b": bad number"),
-        Sense::TooLong => text::put_bytes(out, used, b": too long"),
-        Sense::NoCase => text::put_bytes(out, used, b": no case"),
+// A refusal, if it is one.
+pub(crate) fn refusal(status: Status) {
+    let n = status::number(status);
+    if n != 0 {
+        one(b"refused 0\n", n);
     }
 }
 
 // The line that begins a case of a list, or nothing.
-fn put_head(out: &mut [u8], head: &[u8]) -> usize {
-    if head.len() == 0 {
-        return 0;
+fn tell_head(head: &[u8]) {
+    if head.len() != 0 {
+        io::write_all(2, words::head(head, 100));
+        io::write_all(2, b": ");
     }
-    let used = text::put_bytes(out, 0, words::head(head, 100));
-    text::put_bytes(out, used, b": ")
+}
+
+fn tell_reason(wrong: usize) {
+    if wrong < 9 {
+        let reasons =
+            b"                unknown call.   unknown field.  too few words.  too many words. bad word.       bad number.     too long.       no case.";
+        io::write_all(2, words::before(words::tail(reasons, 16 * wrong), b'.'));
+    }
 }
 
 // A bad line's number, and on standard error the reason too, after the line that begins its case.
-pub fn bad_line(head: &[u8], n: usize, sense: Sense) {
-    let mut out = [0u8; 200];
-    let from = put_head(&mut out, head);
-    let named = text::put_bytes(&mut out, from, b"bad line ");
-    let numbered = text::put_decimal(&mut out, named, n as u64);
-    let told = put_reason(&mut out, numbered, sense);
-    let used = text::put_byte(&mut out, told, b'\n');
-    line(b"bad line", &[n as u64]);
-    show(2, &out, used);
-}
-
-// A refusal, if it is one.
-pub fn refusal(status: Status) {
-    let n = status::number(status);
-    if n != 0 {
-        line(b"refused", &[n]);
-    }
+pub(crate) fn bad_line(head: &[u8], n: usize, wrong: usize) {
+    one(b"bad line 0\n", n as u64);
+    tell_head(head);
+    io::write_all(2, b"bad line ");
+    io::print_decimal(2, n as u64);
+    io::write_all(2, b": ");
+    tell_reason(wrong);
+    io::write_all(2, b"\n");
 }

@@ -33,7 +33,7 @@ fn past(bytes: &[u8], from: usize, b: u8) -> usize
 }
 
 // The first n bytes; all of them where there are fewer.
-pub fn head(bytes: &[u8], n: usize) -> &[u8] {
+pub(crate) fn head(bytes: &[u8], n: usize) -> &[u8] {
     if n <= bytes.len() {
         return &bytes[..n];
     }
@@ -41,7 +41,7 @@ pub fn head(bytes: &[u8], n: usize) -> &[u8] {
 }
 
 // What follows a place; nothing past the end.
-pub fn tail(bytes: &[u8], from: usize) -> &[u8]
+pub(crate) fn tail(bytes: &[u8], from: usize) -> &[u8]
     ensures { λ r. ⌜ now r ≡ drop from (now (bytes .entry)) ⌝ }
 {
     let end = bytes.len();
@@ -52,7 +52,7 @@ pub fn tail(bytes: &[u8], from: usize) -> &[u8]
 }
 
 // What stands before the first byte b; all of it where there is none.
-pub fn before(bytes: &[u8], b: u8) -> &[u8]
+pub(crate) fn before(bytes: &[u8], b: u8) -> &[u8]
     ensures { λ r. ⌜ now r ≡ beforeFirst b (now (bytes .entry)) ⌝ }
 {
     let end = first(bytes, 0, b);
@@ -60,7 +60,7 @@ pub fn before(bytes: &[u8], b: u8) -> &[u8]
 }
 
 // Word k, counted from 0; nothing where there are fewer.
-pub fn word(text: &[u8], k: usize) -> &[u8]
+pub(crate) fn word(text: &[u8], k: usize) -> &[u8]
     ensures { λ r. ⌜ now r ≡ wordAt k (now (text .entry)) ⌝ }
 {
     let mut at = 0;
@@ -76,7 +76,7 @@ pub fn word(text: &[u8], k: usize) -> &[u8]
 }
 
 // Whether two texts are the same.
-pub fn is(text: &[u8], other: &[u8]) -> bool
+pub(crate) fn is(text: &[u8], other: &[u8]) -> bool
     ensures { λ r. ⌜ r ≡ same (now (text .entry)) (now (other .entry)) ⌝ }
 {
     if text.len() != other.len() {

@@ -1,17 +1,12 @@
 -- Copying a row, and row after row.
 use Prim.Native.Nat.{ℕ, _+_, _-_, _*_, _≤_, _<_}
-use mathlib.Core.Path.{_≡_, refl, sym, ap, ap₂, _∙_}
-use mathlib.Core.List.{List, [], _∷_, _++_, map, append-assoc}
+use mathlib.Core.Path.{_≡_, sym, ap, ap₂, _∙_}
+use mathlib.Core.List.{List, _++_, append-assoc}
 use native.Mathlib.Omega.{arith}
 use lib.ListN.{length, getD, take, drop, length-append, length-take, length-drop, take-append-drop}
 use borrow.Rule.Slice.PartMut.{putMid, same-len-mid}
 use lib.Seq.{length-take-le, take-at, drop-at, take-add, drop-drop, getD-take, getD-drop}
 use Rattle.publishing.specs.Publish.{copied}
-
--- Each number as it is.
-pub same-numbers : (l : List ℕ) → map (λ n. n) l ≡ l
-same-numbers [] = refl
-same-numbers (x ∷ l) = ap (λ m. x ∷ m) (same-numbers l)
 
 -- Where the loop stands: rows first to row - 1 are memory's, the others the frame's own.
 abbrev pub upTo : ℕ → ℕ → List ℕ → List ℕ → List ℕ

@@ -7,11 +7,13 @@ use native.Mathlib.Omega.{arith}
 use borrow.Author.Tests.{eq-eqb, eqb-true, ltb-false, not-false}
 use lib.Dec.{ltb, eqb}
 use lib.ListN.{getD}
-use Rattle.pixels.specs.declared.Span.{Span}
-use Rattle.pixels.specs.declared.Span.the-variants.{Nothing, Rows}
+use Rattle.marks.specs.Rows.{noRows, spanOf, spanBad}
+use Rattle.marks.specs.declared.Span.{Span}
+use Rattle.marks.specs.declared.Span.the-variants.{Nothing, Rows}
+use Rattle.marks.specs.declared.Marks.{Marks}
+use Rattle.marks.proofs.Laws.{bad-span}
 use Rattle.lists.proofs.Bools.{neither}
-use Rattle.pixels.specs.Spans.{spanBad}
-use Rattle.st7789.specs.Parts.{withController, withDirty}
+use Rattle.st7789.specs.Parts.{withController, withMarks}
 use Rattle.st7789.specs.Refusals.{badState}
 use Rattle.status.specs.Numbers.{number}
 use Rattle.status.specs.Tests.{first, publishRow}
@@ -36,6 +38,10 @@ pub span-copied :
     out ≡ copied a b memory frame → out ≡ spanCopied span memory frame
 span-copied memory frame e ea eb eo = eo ∙ rw (ea, eb, e)
 
+-- The span of the marks, where it is wanted.
+pub span-told : (go : Bool) (m : Marks) {dirty span : Span} → span ≡ cond go dirty Nothing → dirty ≡ spanOf m → span ≡ cond go (spanOf m) Nothing
+span-told go m e f = e ∙ ap (λ d. cond go d Nothing) f
+
 -- The number that is given.
 module _ (s : St7789p3) (cells room : ℕ) where
   pub number-told : {bad : Bool} {n : ℕ} → bad ≡ badState s → n ≡ first (publishRow bad cells room) → n ≡ publishRefusal s cells room
@@ -53,11 +59,11 @@ module _ (s : St7789p3) (cells room : ℕ) where
   -- Rows are copied only where nothing was refused.
   pub span-ready :
       (go : Bool) {n : ℕ} {span : Span} → n ≡ publishRefusal s cells room → go ≡ eqb n 0 →
-      span ≡ cond go (s .controller .marks .dirty) Nothing →
+      span ≡ cond go (spanOf (s .controller .marks)) Nothing →
       (spanBad span ≡ false) × ((first last : ℕ) → span ≡ Rows first last → (cells ≡ 76800) × (room ≡ 76800))
   span-ready true {n} en eg es =
       let t = none-refused (sym en ∙ eqb-true n 0 (sym eg)) in (
-        ap spanBad es ∙ clause s (t 0) 7,
+        ap spanBad es ∙ sym (bad-span (s .controller .marks)) ∙ clause s (t 0) 7,
         λ first last e. (eqb-true cells 76800 (not-false (eqb cells 76800) (t 1)), eqb-true room 76800 (not-false (eqb room 76800) (t 2))),
       )
   span-ready false en eg es = (ap spanBad es, λ first last e. let z : _≡_ {A = ℕ} 0 1 = cc in omega arith)
@@ -68,18 +74,18 @@ Clauses n s memory frame r out =
     (number (r .status) ≡ n) ×
     ((r .panel ≡ published n s) × ((r .span ≡ publishedSpan n s) × ((r .flags ≡ publishedFlags n s) × (out ≡ publishedFrame n s memory frame))))
 
--- The panel with another span.
-abbrev pub spanned : Span → St7789p3 → St7789p3
-spanned p s = withController (withDirty p (s .controller)) s
+-- The panel with other marks.
+abbrev pub remarked : Marks → St7789p3 → St7789p3
+remarked m s = withController (withMarks m (s .controller)) s
 
 pub all-told :
-    (s : St7789p3) (memory frame : List ℕ) (status : Status) (go : Bool) {n : ℕ} {span left : Span} {flags : Flags} {out : List ℕ} →
-    number status ≡ n → go ≡ eqb n 0 → span ≡ cond go (s .controller .marks .dirty) Nothing →
-    left ≡ cond (not go) (s .controller .marks .dirty) Nothing → flags ≡ cond go (flagsOf (s .controller)) noFlags →
+    (s : St7789p3) (memory frame : List ℕ) (status : Status) (go : Bool) {n : ℕ} {span : Span} {left : Marks} {flags : Flags} {out : List ℕ} →
+    number status ≡ n → go ≡ eqb n 0 → span ≡ cond go (spanOf (s .controller .marks)) Nothing →
+    left ≡ cond (not go) (s .controller .marks) noRows → flags ≡ cond go (flagsOf (s .controller)) noFlags →
     out ≡ spanCopied span memory frame →
-    Clauses n s memory frame (record { panel = spanned left s; span = span; flags = flags; status = status }) out
+    Clauses n s memory frame (record { panel = remarked left s; span = span; flags = flags; status = status }) out
 unfolding published publishedSpan publishedFlags publishedFrame
 all-told s memory frame status true en eg es el ef eo =
-    rw (← eg) (en, (ap (λ p. spanned p s) el, (es, (ef, eo ∙ ap (λ p. spanCopied p memory frame) es))))
+    rw (← eg) (en, (ap (λ m. remarked m s) el, (es, (ef, eo ∙ ap (λ p. spanCopied p memory frame) es))))
 all-told s memory frame status false en eg es el ef eo =
-    rw (← eg) (en, (ap (λ p. spanned p s) el, (es, (ef, eo ∙ ap (λ p. spanCopied p memory frame) es))))
+    rw (← eg) (en, (ap (λ m. remarked m s) el, (es, (ef, eo ∙ ap (λ p. spanCopied p memory frame) es))))

@@ -8,13 +8,15 @@ use borrow.Author.Tests.{leb-true, leb-false}
 use lib.Dec.{leb, eqb}
 use lib.ListN.{length, getD, take, drop, length-append, length-take, length-drop}
 use lib.Seq.{ext-getD}
-use Rattle.pixels.specs.declared.Span.{Span}
-use Rattle.pixels.specs.declared.Span.the-variants.{Nothing, Rows}
-use Rattle.pixels.specs.Spans.{spanBad}
+use Rattle.marks.specs.Rows.{inSpan, noRows, isMarked, spanOf, spanBad, marksBad}
+use Rattle.marks.specs.declared.Span.{Span}
+use Rattle.marks.specs.declared.Span.the-variants.{Nothing, Rows}
+use Rattle.marks.specs.declared.Marks.{Marks}
+use Rattle.marks.proofs.Laws.{marked-span, bad-span}
 use Rattle.st7789.specs.declared.St7789p3.{St7789p3}
-use Rattle.publishing.specs.Publish.{copied, spanCopied, inSpan, published}
+use Rattle.publishing.specs.Publish.{copied, spanCopied, published}
 use Rattle.publishing.proofs.Copies.{upTo, before, between, after}
-use Rattle.publishing.proofs.Refusing.{span-rows, spanned}
+use Rattle.publishing.proofs.Refusing.{span-rows, remarked}
 
 module _ (memory frame : List ℕ) (m : length memory ≡ 76800) (f : length frame ≡ 76800) where
   copied-upTo : (first last : ℕ) → first ≤ last → copied first last memory frame ≡ upTo (first * 240) ((last + 1 - first) * 240) memory frame
@@ -78,16 +80,24 @@ module _ (memory frame : List ℕ) (m : length memory ≡ 76800) (f : length fra
         ∙ ap (λ k. getD memory k 0) e
 
     -- Where the rows that differ lie in the span, the frame is memory afterwards.
-    pub frame-is-memory : Alike → spanCopied span memory frame ≡ memory
+    frame-is-memory : Alike → spanCopied span memory frame ≡ memory
     frame-is-memory same = ext-getD 0 (spanCopied span memory frame) memory (length-spanned span fine ∙ sym m) (λ i _. pixel-alike same i)
 
--- A publish changes nothing of the panel but the span.
+  -- The same by the marks.
+  pub all-copied :
+      (m : Marks) → marksBad m ≡ false →
+      ((row column : ℕ) → column < 240 → isMarked m row ≡ false → getD frame (row * 240 + column) 0 ≡ getD memory (row * 240 + column) 0) →
+      spanCopied (spanOf m) memory frame ≡ memory
+  all-copied m fine same =
+      frame-is-memory (spanOf m) (sym (bad-span m) ∙ fine) (λ row column h e. same row column h (marked-span m row ∙ e))
+
+-- A publish changes nothing of the panel but the marks.
 kept-or-emptied :
     (b : Bool) (s : St7789p3) →
-    spanned (s .controller .marks .dirty) (cond b (spanned Nothing s) s) ≡ s
+    remarked (s .controller .marks) (cond b (remarked noRows s) s) ≡ s
 kept-or-emptied true s = refl
 kept-or-emptied false s = refl
 
-pub span-only : (refusal : ℕ) (s : St7789p3) → spanned (s .controller .marks .dirty) (published refusal s) ≡ s
+pub marks-only : (refusal : ℕ) (s : St7789p3) → remarked (s .controller .marks) (published refusal s) ≡ s
 unfolding published
-span-only refusal s = kept-or-emptied (eqb refusal 0) s
+marks-only refusal s = kept-or-emptied (eqb refusal 0) s

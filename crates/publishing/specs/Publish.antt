@@ -1,13 +1,13 @@
 -- Rules: 01, "Publish copies the span's rows to the frame, other rows stay, answers span and six flags (powered, sleeping, inverted,
 -- display on, switch, duty), and empties the span."
 use Prim.Native.Nat.{ℕ, _+_, _-_, _*_}
-use mathlib.Core.Bool.{Bool, false, _&&_}
+use mathlib.Core.Bool.{false}
 use mathlib.Core.List.{List, _++_}
 use lib.ListN.{take, drop}
-use lib.Dec.{leb}
-use Rattle.pixels.specs.declared.Span.{Span}
-use Rattle.pixels.specs.declared.Span.the-variants.{Nothing, Rows}
-use Rattle.st7789.specs.Parts.{withController, withDirty}
+use Rattle.marks.specs.Rows.{noRows, spanOf}
+use Rattle.marks.specs.declared.Span.{Span}
+use Rattle.marks.specs.declared.Span.the-variants.{Nothing, Rows}
+use Rattle.st7789.specs.Parts.{withController, withMarks}
 use Rattle.st7789.specs.Refusals.{badState}
 use Rattle.status.specs.Numbers.{unlessRefused}
 use Rattle.status.specs.Tests.{first, publishRow}
@@ -25,11 +25,6 @@ copied first last memory frame =
 abbrev pub spanCopied : Span → List ℕ → List ℕ → List ℕ
 spanCopied Nothing memory frame = frame
 spanCopied (Rows first last) memory frame = copied first last memory frame
-
--- Whether a row lies in a span.
-abbrev pub inSpan : ℕ → Span → Bool
-inSpan row Nothing = false
-inSpan row (Rows first last) = leb first row && leb row last
 
 -- The refusal of a publish.
 unfoldable pub publishRefusal : St7789p3 → ℕ → ℕ → ℕ
@@ -54,7 +49,7 @@ noFlags =
 
 -- "answers span"; refused, "no value".
 unfoldable pub publishedSpan : ℕ → St7789p3 → Span
-publishedSpan refusal s = unlessRefused refusal (s .controller .marks .dirty) Nothing
+publishedSpan refusal s = unlessRefused refusal (spanOf (s .controller .marks)) Nothing
 
 -- "answers .. six flags"; refused, "no value".
 unfoldable pub publishedFlags : ℕ → St7789p3 → Flags
@@ -62,8 +57,8 @@ publishedFlags refusal s = unlessRefused refusal (flagsOf (s .controller)) noFla
 
 -- "empties the span"; refused, "A refusal gives back the state it got".
 unfoldable pub published : ℕ → St7789p3 → St7789p3
-published refusal s = unlessRefused refusal (withController (withDirty Nothing (s .controller)) s) s
+published refusal s = unlessRefused refusal (withController (withMarks noRows (s .controller)) s) s
 
 -- "Publish copies the span's rows to the frame"; refused, "every lent number as before".
 unfoldable pub publishedFrame : ℕ → St7789p3 → List ℕ → List ℕ → List ℕ
-publishedFrame refusal s memory frame = unlessRefused refusal (spanCopied (s .controller .marks .dirty) memory frame) frame
+publishedFrame refusal s memory frame = unlessRefused refusal (spanCopied (spanOf (s .controller .marks)) memory frame) frame

@@ -3,18 +3,16 @@ ghost use mathlib.Core.Path.{_≡_};
 ghost use Prim.Native.Nat.{ℕ, _+_, _*_, _≤_, _<_};
 ghost use lib.ListN.{length};
 ghost use mathlib.Core.Bool.{false, cond};
-ghost use Rattle.pixels.specs.declared.Span.the-variants.{Nothing, Rows};
-ghost use Rattle.pixels.specs.Spans.{spanBad};
+ghost use Rattle.marks.specs.declared.Span.the-variants.{Nothing, Rows};
+ghost use Rattle.marks.specs.Rows.{noRows, spanBad};
 ghost use Rattle.status.specs.Numbers.{number};
 ghost use Rattle.status.specs.Tests.{first, publishRow};
 ghost use Rattle.publishing.specs.Publish.{copied, spanCopied, publishRefusal, flagsOf, noFlags, publishedSpan, publishedFlags, published, publishedFrame};
-use pixels::Span;
+use marks::Marks;
+use marks::Span;
 use st7789::Controller;
-use st7789::Marks;
 use st7789::St7789p3;
 use status::Status;
-
-const PANEL_PIXELS: usize = 76800;
 
 // The panel's flags as they go with the frame.
 pub struct Flags {
@@ -82,13 +80,7 @@ fn publish_status(bad: bool, cells: usize, room: usize) -> Status
     if bad {
         return Status::BadState;
     }
-    if cells != PANEL_PIXELS {
-        return Status::BadMemory;
-    }
-    if room != PANEL_PIXELS {
-        return Status::BadFrame;
-    }
-    Status::Ok
+    status::view_status(cells, room)
 }
 
 // The span, or nothing where it is not wanted.
@@ -99,6 +91,16 @@ fn span_if(on: bool, span: Span) -> Span
         return span;
     }
     Span::Nothing
+}
+
+// The marks, or none where they are not wanted.
+fn marks_if(on: bool, marks: Marks) -> Marks
+    ensures { λ r. ⌜ r ≡ cond on marks noRows ⌝ }
+{
+    if on {
+        return marks;
+    }
+    Marks::none()
 }
 
 // The flags, or all of them 0.
@@ -142,13 +144,12 @@ pub fn publish(panel: St7789p3, memory: &[u16], frame: &mut [u16]) -> Published
     let mut after = panel;
     let mut controller = after.controller;
     let marks = controller.marks;
-    let dirty = marks.dirty;
+    let dirty = marks.span();
     let flags = flags_if(go, controller);
     let span = span_if(go, dirty);
     copy_span(span, memory, frame);
-    let left = span_if(!go, dirty);
-    let marks_after = Marks { dirty: left };
-    controller.marks = marks_after;
+    let left = marks_if(!go, marks);
+    controller.marks = left;
     after.controller = controller;
     Published {
         panel: after,

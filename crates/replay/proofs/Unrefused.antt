@@ -26,7 +26,7 @@ use Rattle.lists.specs.Entries.{some}
 use Rattle.text.specs.Text.{appended}
 use Rattle.text.proofs.Text.{count-room, used-room}
 use Rattle.report.specs.Report.{report}
-use Rattle.report.proofs.Room.{line-most, report-most}
+use Rattle.report.proofs.Lengths.{line-most, report-most}
 use Rattle.lines.specs.Lines.{ascii, line}
 use Rattle.replay.specs.Replay.{logged, sent, replayed, printed, made, NoneRefused}
 

@@ -2,19 +2,18 @@
 ghost use mathlib.Core.Path.{_≡_};
 ghost use lib.ListN.{take};
 ghost use Rattle.text.specs.Text.{appended};
-ghost use Rattle.lines.specs.Lines.{texts, hexBytes};
-ghost use Rattle.lists.specs.Params.{listed};
-ghost use Rattle.report.specs.Report.{flag, regsLine, winLine, cntLine, dirtyLine, bootLine, warningLine, traceLine, chipLines, report};
-use boot::BootCheck;
-use chip::Chip;
+ghost use Rattle.report.specs.Report.{flag, regsLine, winLine, cntLine, dirtyLine, bootLine, stateLines, report};
+ghost use Rattle.boot.specs.Boot.{compared, stepOf};
 use chip::Registers;
 use geometry::Pointer;
 use geometry::Window;
+pub use listing::put_params;
+pub use listing::put_record;
+pub use listing::put_warnings;
 use lists::PLACES;
-use lists::Params;
 use lists::TraceRecord;
-use lists::Warning;
-use pixels::Span;
+use marks::Span;
+use st7789::Controller;
 use st7789::Counts;
 use st7789::St7789p3;
 
@@ -78,94 +77,44 @@ fn put_dirty(out: &mut [u8], at: usize, dirty: Span) -> usize
     }
 }
 
-fn put_boot(out: &mut [u8], at: usize, check: BootCheck) -> usize
-    ensures { λ r. ⌜ r ≡ appended (now (out .entry)) at (bootLine check) .count ⌝ }
-    ensures { λ r. ⌜ now (out .exit) ≡ appended (now (out .entry)) at (bootLine check) .places ⌝ }
+fn put_boot(out: &mut [u8], at: usize, step: u8) -> usize
+    ensures { λ r. ⌜ r ≡ appended (now (out .entry)) at (bootLine step) .count ⌝ }
+    ensures { λ r. ⌜ now (out .exit) ≡ appended (now (out .entry)) at (bootLine step) .places ⌝ }
 {
-    match check {
-        BootCheck::Match => lines::put_line(out, at, b"boot ok", &[]),
-        BootCheck::Differs(k) => lines::put_line(out, at, b"boot", &[k as u64]),
-        BootCheck::Missing(k) => lines::put_line(out, at, b"boot", &[k as u64]),
+    if step == 0 {
+        return lines::put_line(out, at, b"boot ok", &[]);
     }
+    lines::put_line(out, at, b"boot", &[step as u64])
 }
 
-fn put_warning(out: &mut [u8], at: usize, w: Warning) -> usize
-    ensures { λ r. ⌜ r ≡ appended (now (out .entry)) at (warningLine w) .count ⌝ }
-    ensures { λ r. ⌜ now (out .exit) ≡ appended (now (out .entry)) at (warningLine w) .places ⌝ }
+// The lines of which there is one each.
+fn put_state(out: &mut [u8], controller: Controller, step: u8) -> usize
+    ensures { λ r. ⌜ r ≡ appended (now (out .entry)) 0 (stateLines controller step) .count ⌝ }
+    ensures { λ r. ⌜ now (out .exit) ≡ appended (now (out .entry)) 0 (stateLines controller step) .places ⌝ }
 {
-    let named = text::put_bytes(out, at, b"w");
-    let ruled = lines::put_numbers(out, named, &[w.rule as u64]);
-    let coded = lines::put_hex_bytes(out, ruled, &[w.cmd]);
-    let timed = lines::put_numbers(out, coded, &[w.at]);
-    text::put_byte(out, timed, b'\n')
-}
-
-// The parameters of a list, each in hex after a space.
-pub fn put_params(out: &mut [u8], at: usize, p: Params) -> usize
-    ensures answer { λ r. ⌜ r ≡ appended (now (out .entry)) at (hexBytes (listed p)) .count ⌝ }
-    ensures lent { λ r. ⌜ now (out .exit) ≡ appended (now (out .entry)) at (hexBytes (listed p)) .places ⌝ }
-{
-    let n = lists::free(p.count, 14);
-    let bytes = p.bytes;
-    lines::put_hex_bytes(out, at, &bytes[..n])
-}
-
-// A trace record as its `t` line.
-pub fn put_record(out: &mut [u8], at: usize, r: TraceRecord) -> usize
-    ensures answer { λ n. ⌜ n ≡ appended (now (out .entry)) at (traceLine r) .count ⌝ }
-    ensures lent { λ n. ⌜ now (out .exit) ≡ appended (now (out .entry)) at (traceLine r) .places ⌝ }
-{
-    let params = r.params;
-    let named = text::put_bytes(out, at, b"t");
-    let coded = lines::put_hex_bytes(out, named, &[r.cmd]);
-    let timed = lines::put_numbers(out, coded, &[r.at, r.pixel_bytes]);
-    let listed = put_params(out, timed, params);
-    text::put_byte(out, listed, b'\n')
-}
-
-// The used warnings, each as its `w` line.
-pub fn put_warnings(out: &mut [u8], at: usize, warnings: [Warning; PLACES], n: u8) -> usize
-    ensures answer { λ r. ⌜ r ≡ appended (now (out .entry)) at (texts warningLine (take n warnings)) .count ⌝ }
-    ensures lent { λ r. ⌜ now (out .exit) ≡ appended (now (out .entry)) at (texts warningLine (take n warnings)) .places ⌝ }
-{
-    let end = lists::free(n, PLACES);
-    let mut used = at;
-    let mut i = 0;
-    while i < end {
-        let warning = warnings[i];
-        used = put_warning(out, used, warning);
-        i += 1;
-    }
-    used
-}
-
-fn put_trace(out: &mut [u8], at: usize, records: [TraceRecord; PLACES], n: u8) -> usize
-    ensures { λ r. ⌜ r ≡ appended (now (out .entry)) at (texts traceLine (take n records)) .count ⌝ }
-    ensures { λ r. ⌜ now (out .exit) ≡ appended (now (out .entry)) at (texts traceLine (take n records)) .places ⌝ }
-{
-    let end = lists::free(n, PLACES);
-    let mut used = at;
-    let mut i = 0;
-    while i < end {
-        let record = records[i];
-        used = put_record(out, used, record);
-        i += 1;
-    }
-    used
-}
-
-// The registers, the window and the counts.
-fn put_chip(out: &mut [u8], at: usize, chip: Chip, counts: Counts, warned: u8) -> usize
-    ensures { λ r. ⌜ r ≡ appended (now (out .entry)) at (chipLines chip counts warned) .count ⌝ }
-    ensures { λ r. ⌜ now (out .exit) ≡ appended (now (out .entry)) at (chipLines chip counts warned) .places ⌝ }
-{
+    let chip = controller.chip;
     let registers = chip.registers;
     let window = chip.window;
     let walk = chip.walk;
     let pointer = walk.pointer;
-    let told = put_regs(out, at, registers);
+    let counts = controller.counts;
+    let warned = controller.logs.warned;
+    let marks = controller.marks;
+    let dirty = marks.span();
+    let told = put_regs(out, 0, registers);
     let placed = put_win(out, told, window, pointer);
-    put_cnt(out, placed, counts, warned)
+    let counted = put_cnt(out, placed, counts, warned);
+    let marked = put_dirty(out, counted, dirty);
+    put_boot(out, marked, step)
+}
+
+// The number of the first step at which a trace leaves the boot sequence, 0 where it does not.
+fn boot_step(records: [TraceRecord; PLACES], traced: u8) -> u8
+    ensures { λ r. ⌜ r ≡ stepOf (compared (take traced records) .check) ⌝ }
+{
+    let compared = boot::trace_mismatch(records, traced);
+    let check = compared.check;
+    check.number()
 }
 
 // What 01's program prints of a panel, from the buffer's start on; the answer is how much of the buffer it takes.
@@ -174,19 +123,11 @@ pub fn write_report(panel: St7789p3, out: &mut [u8]) -> usize
     ensures lent { λ r. ⌜ now (out .exit) ≡ appended (now (out .entry)) 0 (report panel) .places ⌝ }
 {
     let controller = panel.controller;
-    let chip = controller.chip;
-    let counts = controller.counts;
-    let marks = controller.marks;
-    let dirty = marks.dirty;
-    let traced = controller.logs.traced;
-    let warned = controller.logs.warned;
+    let logs = controller.logs;
     let records = panel.records;
     let warnings = panel.warnings;
-    let compared = boot::trace_mismatch(records, traced);
-    let check = compared.check;
-    let told = put_chip(out, 0, chip, counts, warned);
-    let marked = put_dirty(out, told, dirty);
-    let booted = put_boot(out, marked, check);
-    let listed = put_warnings(out, booted, warnings, warned);
-    put_trace(out, listed, records, traced)
+    let step = boot_step(records, logs.traced);
+    let told = put_state(out, controller, step);
+    let listed = listing::put_warnings(out, told, warnings, logs.warned);
+    listing::put_trace(out, listed, records, logs.traced)
 }

@@ -1,89 +1,39 @@
 -- A command's begin: the loop over the rules that it breaks, and the loop over a segment of commands.
 use Prim.Native.Nat.{ℕ, _+_, _-_, _^_, _≤_, _<_, min}
-use mathlib.Core.Path.{_≡_, refl, sym, ap, ap₂, _∙_}
+use mathlib.Core.Path.{_≡_, refl, sym, ap, _∙_}
 use mathlib.Core.Bool.{Bool, true, false, cond, _&&_}
-use mathlib.Core.List.{List, map}
+use mathlib.Core.List.{List, [], _∷_, map, foldl}
 use native.Mathlib.Numerals.{add-one}
 use native.Mathlib.Omega.{arith}
-use borrow.Author.Tests.{ltb-true, ltb-false}
+use borrow.Author.Tests.{lt-ltb, le-ltb, ltb-true, ltb-false}
 use lib.Dec.{ltb, eqb}
-use lib.ListN.{length, set, getD, drop, drop-of-length-le}
-use lib.Seq.{drop-cons}
+use lib.ListN.{length, set, getD, take, drop, length-take, length-drop, drop-of-length-le}
+use lib.Seq.{drop-cons, take-all}
 use Rattle.lists.specs.Fixed.{Fixed, places, push, pushAll}
 use Rattle.lists.specs.declared.Stored.{Stored}
 use Rattle.lists.specs.declared.TraceRecord.{TraceRecord}
 use Rattle.lists.specs.declared.Warning.{Warning}
 use Rattle.lists.specs.declared.Current.the-variants.{Nothing, At}
-use Rattle.lists.proofs.Bools.{both}
+use Rattle.lists.proofs.Bools.{both, neither}
 use Rattle.lists.proofs.Fixed.{full}
 use Rattle.lists.proofs.Putting.{put-free, put-none}
 use Rattle.timing.specs.Lint.{brokenBy, rulesOf}
-use Rattle.st7789.specs.Parts.{withController, withLogs}
-use Rattle.st7789.specs.Command.{warning, linted, begunRecord, logsBegun, begun, begunAll}
-use Rattle.st7789.specs.Places.{commandBegun}
-use Rattle.st7789.specs.Room.{Countable}
+use Rattle.timing.specs.declared.Broken.{Broken}
+use Rattle.st7789.specs.Parts.{traceOf, warningsOf, withController, withWarnings}
+use Rattle.st7789.specs.Command.{warning, linted, countsBegun, begunRecord, controllerBegun, begun, begunAll}
+use Rattle.st7789.specs.Places.{anyFree, controllerBegunAll}
 use Rattle.st7789.specs.declared.Controller.{Controller}
+use Rattle.st7789.specs.declared.Counts.{Counts}
 use Rattle.st7789.specs.declared.Logs.{Logs}
 use Rattle.st7789.specs.declared.St7789p3.{St7789p3}
 
--- The trace with a record more, over a list that is the old one.
-module _ (n : ℕ) {at : ℕ} (ea : at ≡ min n places) {l l′ : List TraceRecord} (el : l′ ≡ l) where
-  pub record-put : {x y : TraceRecord} → at < places → x ≡ y → set l′ at x ≡ push places (record { count = n; places = l }) y .places
-  record-put {x} {y} h ex =
-      ap (λ l. set l at x) el ∙ ap (set l at) ex ∙ ap (λ (f : Fixed TraceRecord). f .places) (put-free places n ea l y h)
-
-  pub record-full : (y : TraceRecord) → places ≤ at → l′ ≡ push places (record { count = n; places = l }) y .places
-  record-full y h = el ∙ ap (λ (f : Fixed TraceRecord). f .places) (put-none places n ea l y h)
-
--- The test of the loop over the broken rules.
-pub within-both : {n : ℕ} (k at : ℕ) {m : ℕ} → m ≡ n → ltb k m && ltb at places ≡ true → (k < n) × (at < places)
-within-both {n} k at {m} e h =
-    let t = both (ltb k m) (ltb at places) h in
-    (rw e at (ltb-true k m (t .0)), ltb-true at places (t .1))
-
--- The loop over the broken rules: s and l are what s₀ and l₀ became by the first k of them.
-abbrev pub warningsBy : Logs → St7789p3 → Fixed Warning
-warningsBy l s = record { count = l .warned; places = s .warnings }
-
-pub record Kept (w : ℕ → Warning) (rules : List ℕ) (s₀ : St7789p3) (l₀ : Logs) (s : St7789p3) (l : Logs) (k : ℕ) : Type 0 where
-  pub left : pushAll places (warningsBy l s) (map w (drop k rules)) ≡ pushAll places (warningsBy l₀ s₀) (map w rules)
-  pub traced : l .traced ≡ l₀ .traced
-  pub stored : s .stored ≡ s₀ .stored
-  pub «records» : s .records ≡ s₀ .records
-
-module _ {w : ℕ → Warning} {rules : List ℕ} {s₀ : St7789p3} {l₀ : Logs} where
-  pub kept-first : Kept w rules s₀ l₀ s₀ l₀ 0
-  kept-first = record { left = refl; traced = refl; stored = refl; «records» = refl }
-
-  pub kept-next :
-      {s s′ : St7789p3} {l l′ : Logs} {k rule : ℕ} → Kept w rules s₀ l₀ s l k → k < length rules → rule ≡ getD rules k 0 →
-      warningsBy l′ s′ ≡ push places (warningsBy l s) (w rule) → l′ .traced ≡ l .traced → s′ .stored ≡ s .stored → s′ .records ≡ s .records →
-      Kept w rules s₀ l₀ s′ l′ (k + 1)
-  kept-next {s} {s′} {l} {l′} {k} {rule} u h ex e et es er =
-      record {
-        left =
-            ap (λ f. pushAll places f (map w (drop (k + 1) rules))) (e ∙ ap (λ r. push places (warningsBy l s) (w r)) ex)
-            ∙ rw (add-one k) (rw (drop-cons rules k 0 h) at (u .left));
-        traced = et ∙ u .traced;
-        stored = es ∙ u .stored;
-        «records» = er ∙ u .«records»;
-      }
-
-  -- It ends with the rules, or with the places.
-  pub kept-last :
-      {s : St7789p3} {l : Logs} {k at m : ℕ} → Kept w rules s₀ l₀ s l k → at ≡ min (l .warned) places → m ≡ length rules →
-      ltb k m && ltb at places ≡ false → warningsBy l s ≡ pushAll places (warningsBy l₀ s₀) (map w rules)
-  kept-last {s} {l} {k} {at} {m} u e em h = by-test (ltb k m) refl h
-    where
-      by-test :
-          (b : Bool) → ltb k m ≡ b → b && ltb at places ≡ false →
-          warningsBy l s ≡ pushAll places (warningsBy l₀ s₀) (map w rules)
-      by-test true eb f =
-          let full-up : places ≤ l .warned = omega (arith, e, ltb-false at places f) in
-          sym (full places (warningsBy l s) (map w (drop k rules)) full-up) ∙ u .left
-      by-test false eb f =
-          let past : length rules ≤ k = omega (arith, em, ltb-false k m eb) in
-          rw (drop-of-length-le rules past) at (u .left)
+-- The test of a place that was asked for.
+pub free-told : (n : ℕ) {at : ℕ} → at ≡ min n places → ltb at places ≡ ltb n places
+free-told n {at} e = by-test (ltb n places) refl
+  where
+    by-test : (b : Bool) → ltb n places ≡ b → ltb at places ≡ b
+    by-test true t = lt-ltb at places (omega (arith, e, ltb-true n places t))
+    by-test false t = le-ltb at places (omega (arith, e, ltb-false n places t))
 
 -- Equal parts make equal panels.
 pub same-panel :
@@ -92,67 +42,238 @@ pub same-panel :
     (record { controller = k′; stored = st′; records = rs′; warnings = ws′ })
 same-panel e1 e2 e3 e4 = cc
 
--- The logs begin a command by how many records they count, and by the warnings.
-logs-alike : (n : ℕ) (l l₀ : Logs) → l .traced ≡ l₀ .traced → logsBegun n l ≡ logsBegun n l₀
-logs-alike n l l₀ e =
-    ap
-    (λ k. cond {A = Logs} (ltb k places) (record { traced = k + 1; warned = n; current = At k }) (record { traced = k; warned = n; current = Nothing }))
-    e
+-- The trace with a record more, or as it is where no place is free.
+module _ (s : St7789p3) {at : ℕ} (e : at ≡ min (s .controller .logs .traced) places) where
+  abbrev recordsWith : TraceRecord → List TraceRecord
+  recordsWith r = push places (traceOf s) r .places
 
--- A command begun, put together from the rules that it broke, the controller, the logs and the records.
-module _ (c t : ℕ) (k₀ : Controller) (l₀ : Logs) (p : St7789p3) where
-  abbrev before : St7789p3
-  before = withController (withLogs l₀ k₀) p
+  pub record-put : {x y : TraceRecord} → at < places → x ≡ y → set (s .records) at x ≡ recordsWith y
+  record-put {x} {y} h ex =
+      ap (set (s .records) at) ex
+      ∙ ap (λ (f : Fixed TraceRecord). f .places) (put-free places (s .controller .logs .traced) e (s .records) y h)
 
+  pub record-full : (y : TraceRecord) → places ≤ at → s .records ≡ recordsWith y
+  record-full y h = ap (λ (f : Fixed TraceRecord). f .places) (put-none places (s .controller .logs .traced) e (s .records) y h)
+
+-- The test of the loop over the broken rules.
+pub within-both : {n : ℕ} (k at : ℕ) {m : ℕ} → m ≡ n → ltb k m && ltb at places ≡ true → (k < n) × (at < places)
+within-both {n} k at {m} e h =
+    let t = both (ltb k m) (ltb at places) h in
+    (rw e at (ltb-true k m (t .0)), ltb-true at places (t .1))
+
+-- The loop over the broken rules: s is what s₀ became by the first k of them. Nothing but the warnings is another.
+pub record Kept (w : ℕ → Warning) (rules : List ℕ) (s₀ s : St7789p3) (k : ℕ) : Type 0 where
+  pub left : pushAll places (warningsOf s) (map w (drop k rules)) ≡ pushAll places (warningsOf s₀) (map w rules)
+  pub rest : (f : Fixed Warning) → withWarnings f s ≡ withWarnings f s₀
+
+module _ {w : ℕ → Warning} {rules : List ℕ} {s₀ : St7789p3} where
+  pub kept-first : Kept w rules s₀ s₀ 0
+  kept-first = record { left = refl; rest = λ f. refl }
+
+  pub kept-next :
+      {s s′ : St7789p3} {k rule : ℕ} → Kept w rules s₀ s k → k < length rules → rule ≡ getD rules k 0 →
+      warningsOf s′ ≡ push places (warningsOf s) (w rule) → ((f : Fixed Warning) → withWarnings f s′ ≡ withWarnings f s) →
+      Kept w rules s₀ s′ (k + 1)
+  kept-next {s} {s′} {k} {rule} u h ex e same =
+      record {
+        left =
+            ap (λ f. pushAll places f (map w (drop (k + 1) rules))) (e ∙ ap (λ r. push places (warningsOf s) (w r)) ex)
+            ∙ rw (add-one k) (rw (drop-cons rules k 0 h) at (u .left));
+        rest = λ f. same f ∙ u .rest f;
+      }
+
+  pub kept-counts : {s : St7789p3} {k : ℕ} → Kept w rules s₀ s k → s .controller .counts ≡ s₀ .controller .counts
+  kept-counts {s} u = ap (λ (s : St7789p3). s .controller .counts) (u .rest (warningsOf s))
+
+  -- It ends with the rules, or with the places.
+  pub kept-last :
+      {s : St7789p3} {k at m : ℕ} → Kept w rules s₀ s k → at ≡ min (s .controller .logs .warned) places → m ≡ length rules →
+      ltb k m && ltb at places ≡ false → s ≡ withWarnings (pushAll places (warningsOf s₀) (map w rules)) s₀
+  kept-last {s} {k} {at} {m} u e em h = ap (λ f. withWarnings f s) (by-test (ltb k m) refl h) ∙ u .rest _
+    where
+      by-test : (b : Bool) → ltb k m ≡ b → b && ltb at places ≡ false → warningsOf s ≡ pushAll places (warningsOf s₀) (map w rules)
+      by-test true eb f =
+          let full-up : places ≤ s .controller .logs .warned = omega (arith, e, ltb-false at places f) in
+          sym (full places (warningsOf s) (map w (drop k rules)) full-up) ∙ u .left
+      by-test false eb f =
+          let past : length rules ≤ k = omega (arith, em, ltb-false k m eb) in
+          rw (drop-of-length-le rules past) at (u .left)
+
+module _ (c t : ℕ) where
+  -- What follows the lint.
+  abbrev afterLint : St7789p3 → St7789p3
+  afterLint s =
+      record {
+        controller = controllerBegun c t (s .controller);
+        stored = s .stored;
+        records = push places (traceOf s) (begunRecord c t) .places;
+        warnings = s .warnings;
+      }
+
+  -- A command begun, put together from the rules that it broke, the controller and the records.
   pub begun-put :
-      {rules : List ℕ} (l : Logs) {l′ : Logs} {ws : List Warning} {k : Controller} {st : List Stored} {rs : List TraceRecord} →
-      rules ≡ rulesOf (brokenBy (k₀ .chip .times) (k₀ .chip .registers .colmod) c t) →
-      _≡_ {A = Fixed Warning} (record { count = l .warned; places = ws }) (pushAll places (warningsBy l₀ p) (map (warning c t) rules)) →
-      l .traced ≡ l₀ .traced → l′ ≡ logsBegun (l .warned) l → k ≡ commandBegun c t k₀ → st ≡ p .stored →
-      rs ≡ push places (record { count = l₀ .traced; places = p .records }) (begunRecord c t) .places →
-      _≡_ {A = St7789p3} (record { controller = withLogs l′ k; stored = st; records = rs; warnings = ws }) (begun c t before)
+      {b : Broken} (s₀ : St7789p3) {s : St7789p3} {k : Controller} {rs : List TraceRecord} →
+      b ≡ brokenBy (s₀ .controller .chip .times) (s₀ .controller .chip .registers .colmod) c t →
+      s ≡ withWarnings (pushAll places (warningsOf s₀) (map (warning c t) (rulesOf b))) s₀ → k ≡ controllerBegun c t (s .controller) →
+      rs ≡ push places (traceOf s) (begunRecord c t) .places →
+      _≡_ {A = St7789p3} (record { controller = k; stored = s .stored; records = rs; warnings = s .warnings }) (begun c t s₀)
   unfolding begun
-  begun-put {rules} l eb ew et el ek es er =
-      let e : _≡_ {A = Fixed Warning} _ (linted c t before) = ew ∙ ap (λ b. pushAll places (warningsBy l₀ p) (map (warning c t) b)) eb in
-      let n : l .warned ≡ linted c t before .count = ap (λ (f : Fixed Warning). f .count) e in
-      same-panel (ap₂ withLogs (el ∙ logs-alike (l .warned) l l₀ et ∙ ap (λ n. logsBegun n l₀) n) ek) es er
-      (ap (λ (f : Fixed Warning). f .places) e)
+  begun-put s₀ eb es ek er =
+      same-panel ek refl er refl
+      ∙ ap afterLint (es ∙ ap (λ b. withWarnings (pushAll places (warningsOf s₀) (map (warning c t) (rulesOf b))) s₀) eb)
 
--- The loop over a segment: s is what s₀ became by the first i commands.
-pub record Turn (t : ℕ) (bytes : List ℕ) (s₀ s : St7789p3) (i : ℕ) : Type 0 where
+  -- Where no place is free it is the controller that changes.
+  begun-quiet :
+      (s : St7789p3) → anyFree (s .controller .logs) ≡ false → begun c t s ≡ withController (controllerBegun c t (s .controller)) s
+  unfolding begun
+  begun-quiet s e =
+      let n = neither (ltb (s .controller .logs .traced) places) (ltb (s .controller .logs .warned) places) e in
+      let kept : linted c t s ≡ warningsOf s = full places (warningsOf s) (map (warning c t) (rulesOf (brokenBy (s .controller .chip .times) (s .controller .chip .registers .colmod) c t))) (ltb-false (s .controller .logs .warned) places (n .1)) in
+      ap (λ f. afterLint (withWarnings f s)) kept ∙ same-panel refl refl (rw (n .0)) refl
+
+  still-quiet : (k : Controller) → anyFree (k .logs) ≡ false → anyFree (controllerBegun c t k .logs) ≡ false
+  still-quiet k e =
+      let n = neither (ltb (k .logs .traced) places) (ltb (k .logs .warned) places) e in
+      ap
+      (λ b. anyFree
+      (cond {A = Logs} b (record { traced = k .logs .traced + 1; warned = k .logs .warned; current = At (k .logs .traced) })
+      (record { traced = k .logs .traced; warned = k .logs .warned; current = Nothing })))
+      (n .0)
+      ∙ e
+
+pub begun-all-quiet :
+    (t : ℕ) (bytes : List ℕ) (s : St7789p3) → anyFree (s .controller .logs) ≡ false →
+    begunAll t bytes s ≡ withController (controllerBegunAll t bytes (s .controller)) s
+begun-all-quiet t [] s e = refl
+begun-all-quiet t (c ∷ bytes) s e =
+    ap (begunAll t bytes) (begun-quiet c t s e)
+    ∙ begun-all-quiet t bytes (withController (controllerBegun c t (s .controller)) s) (still-quiet c t (s .controller) e)
+
+-- A loop over a segment, by any step that counts a command: s is what s₀ became by the first i of them.
+pub record Turn {S : Type 0} (step : S → ℕ → S) (counts : S → Counts) (bytes : List ℕ) (s₀ s : S) (i : ℕ) : Type 0 where
   pub within : i ≤ length bytes
   pub few : length bytes < 2 ^ 64
-  pub commands : s .controller .counts .commands + (length bytes - i) < 2 ^ 64
-  pub ramwrs : s .controller .counts .«ramwr_count» + (length bytes - i) < 2 ^ 64
-  pub left : begunAll t (drop i bytes) s ≡ begunAll t bytes s₀
+  pub commands : counts s .commands + (length bytes - i) < 2 ^ 64
+  pub ramwrs : counts s .«ramwr_count» + (length bytes - i) < 2 ^ 64
+  pub left : foldl step s (drop i bytes) ≡ foldl step s₀ bytes
 
 one-more : (b : Bool) (n : ℕ) → cond b (n + 1) n ≤ n + 1
 one-more true n = omega arith
 one-more false n = omega arith
 
-module _ {t : ℕ} {bytes : List ℕ} {s₀ : St7789p3} where
-  pub turn-first : Countable (length bytes) (s₀ .controller .counts) → Turn t bytes s₀ s₀ 0
-  turn-first r =
-      record {
-        within = omega arith;
-        few = omega (arith, r .commands);
-        commands = omega (arith, r .commands);
-        ramwrs = omega (arith, r .ramwrs);
-        left = refl;
-      }
+module _ {S : Type 0} {step : S → ℕ → S} {counts : S → Counts} {bytes : List ℕ} {s₀ : S} where
+  pub turn-first :
+      counts s₀ .commands + length bytes < 2 ^ 64 → counts s₀ .«ramwr_count» + length bytes < 2 ^ 64 → Turn step counts bytes s₀ s₀ 0
+  turn-first hc hr = record { within = omega arith; few = omega arith; commands = omega arith; ramwrs = omega arith; left = refl }
 
   pub turn-next :
-      {s s′ : St7789p3} {i : ℕ} → Turn t bytes s₀ s i → i < length bytes → s′ ≡ begun (getD bytes i 0) t s → Turn t bytes s₀ s′ (i + 1)
-  unfolding begun
-  turn-next {s} {s′} {i} u h e =
-      rw e
-      (record {
+      {s s′ : S} {i : ℕ} → Turn step counts bytes s₀ s i → i < length bytes → s′ ≡ step s (getD bytes i 0) →
+      counts s′ ≡ countsBegun (getD bytes i 0) (counts s) → Turn step counts bytes s₀ s′ (i + 1)
+  turn-next {s} {s′} {i} u h e ec =
+      record {
         within = omega arith;
         few = u .few;
-        commands = omega (arith, u .commands);
-        ramwrs = omega (arith, u .ramwrs, one-more (eqb (getD bytes i 0) 0x2C) (s .controller .counts .«ramwr_count»));
-        left = rw (add-one i) (rw (drop-cons bytes i 0 h) at (u .left));
-      })
+        commands = rw ec (omega (arith, u .commands));
+        ramwrs = rw ec (omega (arith, u .ramwrs, one-more (eqb (getD bytes i 0) 0x2C) (counts s .«ramwr_count»)));
+        left = ap (λ x. foldl step x (drop (i + 1) bytes)) e ∙ rw (add-one i) (rw (drop-cons bytes i 0 h) at (u .left));
+      }
 
-  pub turn-last : {s : St7789p3} {i : ℕ} → Turn t bytes s₀ s i → length bytes ≤ i → s ≡ begunAll t bytes s₀
+  -- One command more can be counted.
+  pub turn-room :
+      {s : S} {i : ℕ} {n : Counts} → Turn step counts bytes s₀ s i → i < length bytes → n ≡ counts s →
+      (n .commands + 1 < 2 ^ 64) × (n .«ramwr_count» + 1 < 2 ^ 64)
+  turn-room u h e = (
+    omega (arith, u .commands, ap (λ (n : Counts). n .commands) e),
+    omega (arith, u .ramwrs, ap (λ (n : Counts). n .«ramwr_count») e),
+  )
+
+  pub turn-last : {s : S} {i : ℕ} → Turn step counts bytes s₀ s i → length bytes ≤ i → s ≡ foldl step s₀ bytes
   turn-last u h = rw (drop-of-length-le bytes h) at (u .left)
+
+-- The loop over a segment, of a panel.
+abbrev pub PanelTurn : ℕ → List ℕ → St7789p3 → St7789p3 → ℕ → Type 0
+PanelTurn t bytes s₀ s i = Turn (λ s c. begun c t s) (λ s. s .controller .counts) bytes s₀ s i
+
+pub panel-next :
+    (t : ℕ) {bytes : List ℕ} {s₀ s s′ : St7789p3} {i : ℕ} → PanelTurn t bytes s₀ s i → i < length bytes → s′ ≡ begun (getD bytes i 0) t s →
+    PanelTurn t bytes s₀ s′ (i + 1)
+unfolding begun
+panel-next t u h e = turn-next u h e (ap (λ (s : St7789p3). s .controller .counts) e)
+
+-- The commands from i on that go together, as the part of the segment that is lent.
+abbrev partOf : List ℕ → ℕ → ℕ → List ℕ
+partOf bytes i end = take (end - i) (drop i bytes)
+
+part-one : (bytes : List ℕ) (i end : ℕ) → i < length bytes → end ≡ i + 1 → partOf bytes i end ≡ getD bytes i 0 ∷ []
+part-one bytes i end h e =
+    let one : end - i ≡ 1 = omega arith in
+    ap (λ n. take n (drop i bytes)) one ∙ ap (take 1) (drop-cons bytes i 0 h)
+
+part-all : (bytes : List ℕ) (i end : ℕ) → end ≡ length bytes → partOf bytes i end ≡ drop i bytes
+part-all bytes i end e = take-all (end - i) (drop i bytes) (rw length-drop (omega arith))
+
+pub part-room :
+    (t : ℕ) {bytes : List ℕ} {s₀ s : St7789p3} {i end : ℕ} {n : Counts} → PanelTurn t bytes s₀ s i → end ≤ length bytes →
+    n ≡ s .controller .counts →
+    (n .commands + length (partOf bytes i end) < 2 ^ 64) × (n .«ramwr_count» + length (partOf bytes i end) < 2 ^ 64)
+part-room t {bytes} {s₀} {s} {i} {end} {n} u h e =
+    let l : length (partOf bytes i end) ≡ min (end - i) (length bytes - i) = length-take (end - i) (drop i bytes) ∙ ap (min (end - i)) (length-drop i bytes) in (
+      omega (arith, l, u .commands, ap (λ (n : Counts). n .commands) e),
+      omega (arith, l, u .ramwrs, ap (λ (n : Counts). n .«ramwr_count») e),
+    )
+
+-- Each command is counted.
+module _ (t : ℕ) where
+  all-commands : (bytes : List ℕ) (k : Controller) → controllerBegunAll t bytes k .counts .commands ≡ k .counts .commands + length bytes
+  all-commands [] k = omega arith
+  all-commands (c ∷ bytes) k = all-commands bytes (controllerBegun c t k) ∙ omega arith
+
+  all-ramwrs : (bytes : List ℕ) (k : Controller) → controllerBegunAll t bytes k .counts .«ramwr_count» ≤ k .counts .«ramwr_count» + length bytes
+  all-ramwrs [] k = omega arith
+  all-ramwrs (c ∷ bytes) k =
+      omega (arith, all-ramwrs bytes (controllerBegun c t k), one-more (eqb c 0x2C) (k .counts .«ramwr_count»))
+
+none-past : (bytes : List ℕ) → drop (length bytes) bytes ≡ []
+none-past bytes = let e : length bytes ≤ length bytes = omega arith in drop-of-length-le bytes e
+
+-- What one turn leaves: a command, or all that are left where no place is free.
+module _ (t : ℕ) {bytes : List ℕ} {s₀ s : St7789p3} {i : ℕ} (u : PanelTurn t bytes s₀ s i) (h : i < length bytes) where
+  abbrev afterPart : St7789p3 → Controller → List TraceRecord → St7789p3
+  afterPart s k rs = record { controller = k; stored = s .stored; records = rs; warnings = s .warnings }
+
+  pub panel-part :
+      {end : ℕ} {b : Broken} {s′ : St7789p3} {k : Controller} {rs : List TraceRecord} →
+      end ≡ cond (anyFree (s .controller .logs)) (i + 1) (length bytes) →
+      b ≡ brokenBy (s .controller .chip .times) (s .controller .chip .registers .colmod) (getD bytes i 0) t →
+      s′ ≡ withWarnings (pushAll places (warningsOf s) (map (warning (getD bytes i 0) t) (rulesOf b))) s →
+      k ≡ controllerBegunAll t (partOf bytes i end) (s′ .controller) →
+      rs ≡ push places (traceOf s′) (begunRecord (getD bytes i 0) t) .places → PanelTurn t bytes s₀ (afterPart s′ k rs) end
+  panel-part {end} {b} {s′} {k} {rs} ee eb es ek er = by-free (anyFree (s .controller .logs)) refl ee
+    where
+      by-free :
+          (x : Bool) → anyFree (s .controller .logs) ≡ x → end ≡ cond x (i + 1) (length bytes) → PanelTurn t bytes s₀ (afterPart s′ k rs) end
+      by-free true f e =
+          rw e
+          (panel-next t u h
+          (begun-put (getD bytes i 0) t s eb es (ek ∙ ap (λ l. controllerBegunAll t l (s′ .controller)) (part-one bytes i end h e)) er))
+      by-free false f e =
+          let n = neither (ltb (s .controller .logs .traced) places) (ltb (s .controller .logs .warned) places) f in
+          let same : s′ ≡ s = es ∙ ap (λ w. withWarnings w s) (full places (warningsOf s) (map (warning (getD bytes i 0) t) (rulesOf b)) (ltb-false (s .controller .logs .warned) places (n .1))) in
+          let full-trace : push places (traceOf s) (begunRecord (getD bytes i 0) t) .places ≡ s .records = rw (n .0) in
+          let quiet : afterPart s′ k rs ≡ withController (controllerBegunAll t (drop i bytes) (s .controller)) s =
+          ap (λ q. afterPart s′ k q) er
+          ∙ ap (λ q. afterPart s′ q (push places (traceOf s′) (begunRecord (getD bytes i 0) t) .places)) (ek ∙ ap (λ l. controllerBegunAll t l (s′ .controller)) (part-all bytes i end e))
+          ∙ ap (λ q. afterPart q (controllerBegunAll t (drop i bytes) (q .controller)) (push places (traceOf q) (begunRecord (getD bytes i 0) t) .places)) same
+          ∙ ap (λ q. afterPart s (controllerBegunAll t (drop i bytes) (s .controller)) q) full-trace
+          in
+          rw (quiet, e)
+          (record {
+            within = omega arith;
+            few = u .few;
+            commands = omega (arith, all-commands t (drop i bytes) (s .controller), length-drop i bytes, u .commands);
+            ramwrs = omega (arith, all-ramwrs t (drop i bytes) (s .controller), length-drop i bytes, u .ramwrs);
+            left =
+                ap (foldl (λ s c. begun c t s) (withController (controllerBegunAll t (drop i bytes) (s .controller)) s)) (none-past bytes)
+                ∙ sym (begun-all-quiet t (drop i bytes) s f)
+                ∙ u .left;
+          })

@@ -7,11 +7,13 @@ use native.Mathlib.Omega.{arith}
 use lib.ListN.{length}
 use mir.Val.{Fits}
 use mir.Syntax.{w64}
-use Rattle.pixels.specs.Run.{stores, written}
+use Rattle.geometry.specs.declared.Site.{Site}
+use Rattle.pixels.specs.Run.{stores, written, walkedOn, unwalked}
 use Rattle.pixels.specs.declared.Walked.{Walked}
 use Rattle.pixels.proofs.Laws.{counted-few}
 use Rattle.lists.specs.Params.{excess}
 use Rattle.chip.specs.Apply.{chipTaken}
+use Rattle.chip.specs.Site.{siteOf, chipStores}
 use Rattle.chip.specs.declared.InForce.{InForce}
 use Rattle.chip.specs.declared.InForce.the-variants.{Code}
 use Rattle.chip.specs.declared.Chip.{Chip}
@@ -22,16 +24,21 @@ use Rattle.st7789.specs.declared.Controller.{Controller}
 
 abbrev ranBy : Walked → Controller → Controller
 ranBy w k =
-    whole (k .cfg) (k .power) (walkedChip (w .walk) (k .chip)) (pixelsAdded (w .pixels) (k .counts)) (w .dirty) (k .logs)
+    whole (k .cfg) (k .power) (walkedChip (w .walk) (k .chip)) (pixelsAdded (w .pixels) (k .counts)) (w .marks) (k .logs)
 
 abbrev takenBy : Chip → ℕ → Controller → Controller
 takenBy chip n k = withCounts (droppedAdded n (k .counts)) (withChip chip k)
 
 module _ (k : Controller) (bytes : List ℕ) where
+  -- The chip's site, as the engine is given it.
+  pub walked-at :
+      {site : Site} {w : Walked} → site ≡ siteOf (k .chip) → w ≡ walkedOn site (unwalked (k .chip .walk) (k .marks)) bytes → w ≡ walkOver k bytes
+  walked-at e ew = ew ∙ ap (λ site. walkedOn site (unwalked (k .chip .walk) (k .marks)) bytes) e
+
   -- A segment counts no more pixels than it has bytes.
   pub pixels-fit : Countable (length bytes) (k .counts) → (w : Walked) → w ≡ walkOver k bytes → Fits w64 (k .counts .«pixels_written» + w .pixels)
   pixels-fit room w e =
-      let h : w .pixels ≤ length bytes = rw e (omega (arith, counted-few (k .chip .window) (k .chip .walk) bytes)) in
+      let h : w .pixels ≤ length bytes = rw e (omega (arith, counted-few (siteOf (k .chip)) (k .chip .walk) bytes)) in
       record { fits = omega (arith, room .pixels) }
 
   pub dropped-fit :
@@ -52,18 +59,18 @@ module _ (k : Controller) (bytes : List ℕ) where
   pub data-for :
       {c n : ℕ} {chip : Chip} → k .chip .decoder .«in_pixels» ≡ false → k .chip .decoder .cmd ≡ Code c → chip ≡ chipTaken c bytes (k .chip) →
       n ≡ excess (k .chip .decoder .params) (length bytes) → takenBy chip n k ≡ controllerData bytes k
-  unfolding taken
+  unfolding taken chipTaken
   data-for e ec ek en = ap₂ (λ chip n. takenBy chip n k) ek en ∙ ap₂ (λ b f. dataBy b f) (sym e) (sym ec)
 
   module _ (m : List ℕ) where
     stored-by : Bool → List ℕ
-    stored-by b = written m (cond b (stores (k .chip .window) (k .chip .registers .madctl) (k .chip .walk) bytes) [])
+    stored-by b = written m (cond b (chipStores (k .chip) bytes) [])
 
     pub stores-run :
-        {l : List ℕ} → k .chip .decoder .«in_pixels» ≡ true →
-        l ≡ written m (stores (k .chip .window) (k .chip .registers .madctl) (k .chip .walk) bytes) → l ≡ written m (storesIn true bytes k)
+        {site : Site} {l : List ℕ} → k .chip .decoder .«in_pixels» ≡ true → site ≡ siteOf (k .chip) →
+        l ≡ written m (stores site (k .chip .walk) bytes) → l ≡ written m (storesIn true bytes k)
     unfolding stored-by
-    stores-run e el = el ∙ ap stored-by (sym e)
+    stores-run e es el = el ∙ ap (λ site. written m (stores site (k .chip .walk) bytes)) es ∙ ap stored-by (sym e)
 
     pub stores-none : k .chip .decoder .«in_pixels» ≡ false → m ≡ written m (storesIn true bytes k)
     unfolding stored-by

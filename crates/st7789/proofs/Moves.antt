@@ -7,17 +7,18 @@ use native.Mathlib.Omega.{arith}
 use borrow.Rule.Slice.PartMut.{putMid}
 use lib.Dec.{eqb}
 use lib.ListN.{length, set, take, drop, drop-of-length-le}
-use lib.Seq.{set-out, take-all}
+use lib.Seq.{take-all}
 use Rattle.pixels.specs.Run.{Store, written}
 use Rattle.lists.specs.Entries.{placeOf}
 use Rattle.lists.specs.Params.{filled}
 use Rattle.lists.specs.declared.Params.{Params}
 use Rattle.lists.specs.declared.Stored.{Stored}
 use Rattle.lists.specs.declared.TraceRecord.{TraceRecord}
-use Rattle.chip.specs.Apply.{chipFilled, chipApplied, due, appliedIfDue, chipTaken}
-use Rattle.chip.specs.declared.Chip.{Chip}
+use Rattle.lists.proofs.Storing.{stored-one, none-stored}
+use Rattle.chip.specs.Apply.{chipTaken}
 use Rattle.chip.specs.declared.InForce.{InForce}
 use Rattle.chip.specs.declared.InForce.the-variants.{Code}
+use Rattle.chip.proofs.Cuts.{taken-params}
 use Rattle.status.specs.Numbers.{unlessRefused}
 use Rattle.st7789.specs.Parts.{withController}
 use Rattle.st7789.specs.Command.{begunAll, controllerReleased, released}
@@ -49,15 +50,6 @@ module _ (t : ℕ) (bytes : List ℕ) (cs : Bool) (s : St7789p3) {dc : Bool} {p 
   unfolding moved
   moved-commands ed ep ek = rw (ed, ← ep) (release-put cs p ek)
 
--- Applying leaves the parameters.
-taken-params : (c : ℕ) (bytes : List ℕ) (s : Chip) → chipTaken c bytes s .decoder .params ≡ filled (s .decoder .params) bytes
-unfolding chipTaken appliedIfDue
-taken-params c bytes s = go (due c (chipFilled bytes s .decoder)) (chipFilled bytes s)
-  where
-    go : (b : Bool) (x : Chip) → cond b (chipApplied c x) x .decoder .params ≡ x .decoder .params
-    go true x = refl
-    go false x = refl
-
 -- The stored list, at its place or nowhere.
 module _ (bytes : List ℕ) (k : Controller) (l : List Stored) {place : ℕ} (ep : place ≡ storedPlace k) where
   abbrev kept : Params → Stored
@@ -70,7 +62,7 @@ module _ (bytes : List ℕ) (k : Controller) (l : List Stored) {place : ℕ} (ep
   pub stored-put :
       {k₁ : Controller} {x : Stored} → place < 12 → k₁ ≡ controllerData bytes k → x ≡ kept (k₁ .chip .decoder .params) →
       set l place x ≡ storedData bytes k l
-  unfolding taken
+  unfolding taken chipTaken
   stored-put {k₁} {x} h ek ex =
       ap₂ (set l) ep (ex ∙ ap (λ (k : Controller). kept (k .chip .decoder .params)) ek)
       ∙ by-kind (k .chip .decoder .«in_pixels») (k .chip .decoder .cmd) (omega (arith, ep, h))
@@ -80,15 +72,18 @@ module _ (bytes : List ℕ) (k : Controller) (l : List Stored) {place : ℕ} (ep
           set l (cond b 12 (placeFor f)) (kept (cond b (ran bytes k) (takenFor f bytes k) .chip .decoder .params)) ≡ storedBy b f
       by-kind true f h = absurd (omega arith)
       by-kind false InForce.Nothing h = absurd (omega arith)
-      by-kind false (Code c) h = ap (λ p. set l (placeOf c) (kept p)) (taken-params c bytes (k .chip))
+      by-kind false (Code c) h =
+          ap (λ p. set l (placeOf c) (kept p)) (taken-params c bytes (k .chip))
+          ∙ ap (λ b. cond b (set l (placeOf c) (kept (filled (k .chip .decoder .params) bytes))) l) (sym (stored-one c h))
 
-  pub stored-nowhere : length l ≡ 12 → 12 ≤ place → l ≡ storedData bytes k l
-  stored-nowhere e h = by-kind (k .chip .decoder .«in_pixels») (k .chip .decoder .cmd) (omega (arith, ep, h))
+  pub stored-nowhere : 12 ≤ place → l ≡ storedData bytes k l
+  stored-nowhere h = by-kind (k .chip .decoder .«in_pixels») (k .chip .decoder .cmd) (omega (arith, ep, h))
     where
       by-kind : (b : Bool) (f : InForce) → 12 ≤ cond b 12 (placeFor f) → l ≡ storedBy b f
       by-kind true f h = refl
       by-kind false InForce.Nothing h = refl
-      by-kind false (Code c) h = sym (set-out l (placeOf c) (kept (filled (k .chip .decoder .params) bytes)) (omega (arith, h, e)))
+      by-kind false (Code c) h =
+          ap (λ b. cond b (set l (placeOf c) (kept (filled (k .chip .decoder .params) bytes))) l) (sym (none-stored c h))
 
 pub data-put :
     (bytes : List ℕ) (s : St7789p3) {k : Controller} {st : List Stored} {rs : List TraceRecord} → k ≡ controllerData bytes (s .controller) →

@@ -10,14 +10,14 @@ use lib.Seq.{set-getD, getD-take}
 use lib.Dec.{eqb}
 use Rattle.lists.specs.Fixed.{Fixed, places}
 use Rattle.lists.specs.Params.{differ}
-use Rattle.lists.specs.Entries.{some, None, storedLong, recordLong}
+use Rattle.lists.specs.Entries.{some, storedLong, recordLong}
 use Rattle.lists.specs.declared.Params.{Params}
 use Rattle.lists.specs.declared.TraceRecord.{TraceRecord}
 use Rattle.lists.specs.declared.Current.{Current}
 use Rattle.lists.specs.declared.Current.the-variants.{Nothing, At}
 use Rattle.lists.proofs.Bools.{neither}
 use Rattle.lists.proofs.Scanning.{Gather, gather-first, gather-next}
-use Rattle.lists.proofs.Somes.{each-fails, none-passes, one-passes}
+use Rattle.lists.proofs.Somes.{None, each-fails, none-passes, one-passes}
 use Rattle.status.specs.Tests.{first, transferRow}
 use Rattle.st7789.specs.Parts.{traceOf}
 use Rattle.st7789.specs.Data.{noRecord, onCurrent}

@@ -10,8 +10,8 @@ use Rattle.lists.specs.declared.TraceRecord.{TraceRecord}
 use Rattle.lists.specs.declared.Warning.{Warning}
 use Rattle.lists.specs.declared.Current.the-variants.{Nothing, At}
 use Rattle.timing.specs.Lint.{brokenBy, rulesOf}
-use Rattle.chip.specs.Begin.{chipBegun, chipReleased}
-use Rattle.st7789.specs.Parts.{traceOf, warningsOf, withController, withChip, withLogs, whole}
+use Rattle.chip.specs.Begin.{inForce, effects, chipReleased}
+use Rattle.st7789.specs.Parts.{traceOf, warningsOf, withController, withChip, withCounts, withLogs, withWarnings}
 use Rattle.st7789.specs.declared.Counts.{Counts}
 use Rattle.st7789.specs.declared.Logs.{Logs}
 use Rattle.st7789.specs.declared.Controller.{Controller}
@@ -37,40 +37,56 @@ countsBegun c n =
       «dropped_params» = n .«dropped_params»;
     }
 
--- The trace record of c, as it is at first.
+-- The trace record of c, as it is at first. That of command 0 at time 0 is the empty one.
 abbrev pub begunRecord : ℕ → ℕ → TraceRecord
 begunRecord c t = record { at = t; «pixel_bytes» = 0; params = noParams; cmd = c }
 
--- "Then a trace record if fewer than 128 are used, else none is current.": how many are used, and which is current. So many warnings are
--- used by now.
-abbrev pub logsBegun : ℕ → Logs → Logs
-logsBegun warned l =
-    cond {A = Logs} (ltb (l .traced) places) (record { traced = l .traced + 1; warned = warned; current = At (l .traced) })
-    (record { traced = l .traced; warned = warned; current = Nothing })
+-- "Then a trace record if fewer than 128 are used, else none is current.": how many are used, and which is current.
+abbrev pub logsBegun : Logs → Logs
+logsBegun l =
+    cond {A = Logs} (ltb (l .traced) places) (record { traced = l .traced + 1; warned = l .warned; current = At (l .traced) })
+    (record { traced = l .traced; warned = l .warned; current = Nothing })
 
--- The controller of it; the chip's part has "parameters emptied, not applied, c in force" and what follows, and the effects.
-abbrev pub controllerBegun : ℕ → ℕ → ℕ → Controller → Controller
-controllerBegun c t warned k =
-    whole (k .cfg) (k .power) (chipBegun c t (k .chip)) (countsBegun c (k .counts)) (k .marks .dirty) (logsBegun warned (k .logs))
+-- What follows the lint, of the controller.
+abbrev pub controllerBegun : ℕ → ℕ → Controller → Controller
+controllerBegun c t k =
+    -- "commands + 1;", and with 2C "ramwr_count + 1."
+    let a : Controller = withCounts (countsBegun c (k .counts)) k in
+    -- "parameters emptied, not applied, c in force. 2C: .. 3C: .. Any other: run off, carry dropped."
+    let b : Controller = withChip (inForce c (a .chip)) a in
+    -- "Then a trace record if fewer than 128 are used, else none is current."
+    let d : Controller = withLogs (logsBegun (b .logs)) b in
+    -- "Then effects: 01 reset, .."
+    withChip (effects c t (d .chip)) d
 
--- "Beginning command c at time t, in this order: lint; commands + 1; .. Then a trace record"
+-- "Beginning command c at time t, in this order:"
 unfoldable pub begun : ℕ → ℕ → St7789p3 → St7789p3
 begun c t s =
+    -- "lint;"
+    let a : St7789p3 = withWarnings (linted c t s) s in
+    -- "commands + 1; .. Then a trace record .. Then effects"
     record {
-      controller = controllerBegun c t (linted c t s .count) (s .controller);
-      stored = s .stored;
-      records = push places (traceOf s) (begunRecord c t) .places;
-      warnings = linted c t s .places;
+      controller = controllerBegun c t (a .controller);
+      stored = a .stored;
+      records = push places (traceOf a) (begunRecord c t) .places;
+      warnings = a .warnings;
     }
 
 -- "with dc low, each byte begins a command"
 abbrev pub begunAll : ℕ → List ℕ → St7789p3 → St7789p3
 begunAll t bytes s = foldl (λ s c. begun c t s) s bytes
 
+-- "CS release: .. no current record."
+abbrev pub logsReleased : Logs → Logs
+logsReleased l = record { traced = l .traced; warned = l .warned; current = Nothing }
+
 -- "CS release: no command, .. no current record."
 unfoldable pub controllerReleased : Controller → Controller
 controllerReleased k =
-    withLogs (record { traced = k .logs .traced; warned = k .logs .warned; current = Nothing }) (withChip (chipReleased (k .chip)) k)
+    -- "no command, no parameters, no run, no carry,
+    let a : Controller = withChip (chipReleased (k .chip)) k in
+    -- no current record."
+    withLogs (logsReleased (a .logs)) a
 
 -- The panel of it.
 abbrev pub released : St7789p3 → St7789p3

@@ -3,21 +3,22 @@ use Prim.Native.Nat.{ℕ, _+_}
 use mathlib.Core.Bool.{Bool, true, cond, _&&_}
 use mathlib.Core.List.{List, []}
 use lib.ListN.{length, set, getD}
-use Rattle.pixels.specs.Run.{Store, stores, walkedOn, unwalked}
+use Rattle.pixels.specs.Run.{Store}
 use Rattle.pixels.specs.declared.Walk.{Walk}
 use Rattle.pixels.specs.declared.Walked.{Walked}
-use Rattle.lists.specs.Entries.{placeOf}
+use Rattle.lists.specs.Entries.{isStored, placeOf}
 use Rattle.lists.specs.Params.{filled, excess}
 use Rattle.lists.specs.declared.Params.{Params}
 use Rattle.lists.specs.declared.Stored.{Stored}
 use Rattle.lists.specs.declared.TraceRecord.{TraceRecord}
 use Rattle.lists.specs.declared.Current.{Current}
 use Rattle.lists.specs.declared.Current.the-variants.{Nothing, At}
-use Rattle.chip.specs.Apply.{chipTaken}
+use Rattle.chip.specs.Apply.{chipFilled, appliedIfDue}
+use Rattle.chip.specs.Site.{chipStores, chipWalked}
 use Rattle.chip.specs.declared.InForce.{InForce}
 use Rattle.chip.specs.declared.InForce.the-variants.{Code}
 use Rattle.chip.specs.declared.Chip.{Chip}
-use Rattle.st7789.specs.Parts.{whole, withChip, withCounts}
+use Rattle.st7789.specs.Parts.{withChip, withCounts, withMarks}
 use Rattle.st7789.specs.declared.Counts.{Counts}
 use Rattle.st7789.specs.declared.Controller.{Controller}
 use Rattle.st7789.specs.declared.St7789p3.{St7789p3}
@@ -41,7 +42,7 @@ moreParams bytes r = record { at = r .at; «pixel_bytes» = r .«pixel_bytes»; 
 
 -- The walk of a data segment over the controller's window.
 abbrev pub walkOver : Controller → List ℕ → Walked
-walkOver k bytes = walkedOn (k .chip .window) (k .chip .registers .madctl) (unwalked (k .chip .walk) (k .marks .dirty)) bytes
+walkOver k bytes = chipWalked (k .chip) (k .marks) bytes
 
 -- The chip with the walk put anew.
 abbrev pub walkedChip : Walk → Chip → Chip
@@ -67,16 +68,26 @@ droppedAdded n k =
       «dropped_params» = k .«dropped_params» + n;
     }
 
--- "Data in a run: .. pairs form pixels": walk, count and span are what these leave.
+-- "Data in a run:"
 unfoldable pub ran : List ℕ → Controller → Controller
 ran bytes k =
-    whole (k .cfg) (k .power) (walkedChip (walkOver k bytes .walk) (k .chip)) (pixelsAdded (walkOver k bytes .pixels) (k .counts))
-    (walkOver k bytes .dirty) (k .logs)
+    -- "pairs form pixels, high byte first, an odd byte waits as carry."
+    let w : Walked = walkOver k bytes in
+    let a : Controller = withChip (walkedChip (w .walk) (k .chip)) k in
+    -- "Stored or not, pixels_written + 1"
+    let b : Controller = withCounts (pixelsAdded (w .pixels) (a .counts)) a in
+    -- "a stored pixel widens the dirty span by its row"
+    withMarks (w .marks) b
 
--- "bytes fill up to 14, the rest counted as dropped; .. then the command applies"
+-- "Data with a command and no run:"
 unfoldable pub taken : ℕ → List ℕ → Controller → Controller
 taken c bytes k =
-    withCounts (droppedAdded (excess (k .chip .decoder .params) (length bytes)) (k .counts)) (withChip (chipTaken c bytes (k .chip)) k)
+    -- "bytes fill up to 14,
+    let a : Controller = withChip (chipFilled bytes (k .chip)) k in
+    -- the rest counted as dropped; ..
+    let b : Controller = withCounts (droppedAdded (excess (k .chip .decoder .params) (length bytes)) (a .counts)) a in
+    -- then the command applies."
+    withChip (appliedIfDue c (b .chip)) b
 
 -- "With no run and no command in force data is lost and uncounted."
 abbrev pub takenFor : InForce → List ℕ → Controller → Controller
@@ -97,10 +108,10 @@ abbrev pub recordData : List ℕ → Controller → TraceRecord → TraceRecord
 recordData bytes k r =
     cond (k .chip .decoder .«in_pixels») (morePixels (length bytes) r) (listedFor (k .chip .decoder .cmd) bytes r)
 
--- "A stored command stores its list on every data segment, an empty one too, so the last wins." Past the twelve places `set` stores nothing.
+-- "A stored command stores its list on every data segment, an empty one too, so the last wins."
 abbrev pub storedFor : InForce → Params → List Stored → List Stored
 storedFor InForce.Nothing p l = l
-storedFor (Code c) p l = set l (placeOf c) (record { present = true; params = p })
+storedFor (Code c) p l = cond (isStored c) (set l (placeOf c) (record { present = true; params = p })) l
 
 -- "Data in a run", or "Data with a command and no run": the stored lists.
 abbrev pub storedData : List ℕ → Controller → List Stored → List Stored
@@ -120,4 +131,4 @@ dataIn bytes s =
 -- What a segment stores: only data in a run does.
 abbrev pub storesIn : Bool → List ℕ → Controller → List Store
 storesIn dc bytes k =
-    cond (dc && k .chip .decoder .«in_pixels») (stores (k .chip .window) (k .chip .registers .madctl) (k .chip .walk) bytes) []
+    cond (dc && k .chip .decoder .«in_pixels») (chipStores (k .chip) bytes) []

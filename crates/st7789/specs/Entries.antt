@@ -3,9 +3,8 @@ use Prim.Native.Nat.{ℕ}
 use mathlib.Core.Bool.{Bool, false, cond}
 use mathlib.Core.List.{List}
 use lib.ListN.{length, replicate}
-use Rattle.pixels.specs.Run.{written}
-use Rattle.pixels.specs.declared.Span.{Span}
-use Rattle.pixels.specs.Spans.{allRows, zeroed}
+use Rattle.marks.specs.Rows.{noRows, allRows}
+use Rattle.pixels.specs.Run.{written, zeroed}
 use Rattle.lists.specs.Fixed.{places}
 use Rattle.lists.specs.Params.{noParams}
 use Rattle.lists.specs.declared.Current.{Current}
@@ -15,13 +14,13 @@ use Rattle.board.specs.declared.PanelConfig.{PanelConfig}
 use Rattle.chip.specs.Begin.{freshChip}
 use Rattle.status.specs.Numbers.{unlessRefused}
 use Rattle.status.specs.Tests.{memoryRefusal}
-use Rattle.st7789.specs.Parts.{withController, withCfg, withPower, withDirty, withLogs}
-use Rattle.st7789.specs.Command.{begunAll, released}
+use Rattle.st7789.specs.Parts.{withController, withCfg, withPower, withMarks, withLogs}
+use Rattle.st7789.specs.Command.{begunRecord, begunAll, released}
 use Rattle.st7789.specs.Data.{dataIn, storesIn}
 use Rattle.st7789.specs.Refusals.{transferRefusal, bareRefusal}
 use Rattle.st7789.specs.declared.PanelMemory.{PanelMemory}
 use Rattle.st7789.specs.declared.PanelMemory.the-variants.{Lent, Without}
-use Rattle.st7789.specs.declared.Taken.{Taken}
+use Rattle.st7789.specs.declared.HandedOver.{HandedOver}
 use Rattle.st7789.specs.declared.Controller.{Controller}
 use Rattle.st7789.specs.declared.St7789p3.{St7789p3}
 
@@ -33,7 +32,7 @@ freshController cfg =
       power = unpowered;
       chip = freshChip;
       counts = record { commands = 0; «ramwr_count» = 0; «pixels_written» = 0; «dropped_params» = 0 };
-      marks = record { dirty = Span.Nothing };
+      marks = noRows;
       logs = record { traced = 0; warned = 0; current = Current.Nothing };
     }
 
@@ -43,7 +42,7 @@ emptyLists k =
     record {
       controller = k;
       stored = replicate 12 (record { present = false; params = noParams });
-      records = replicate places (record { at = 0; «pixel_bytes» = 0; params = noParams; cmd = 0 });
+      records = replicate places (begunRecord 0 0);
       warnings = replicate places (record { at = 0; rule = 0; cmd = 0 });
     }
 
@@ -97,10 +96,10 @@ brightnessSet level scale duty k = withPower (litTo level scale duty (k .power))
 
 -- "Mark-all makes the span 0 to 319."
 abbrev pub allMarked : Controller → Controller
-allMarked k = withDirty allRows k
+allMarked k = withMarks allRows k
 
 -- "taking warnings are never refused.": they are handed over with their count, and none is left.
-abbrev pub warningsTaken : St7789p3 → Taken
+abbrev pub warningsTaken : St7789p3 → HandedOver
 warningsTaken s =
     let logs = s .controller .logs in
     record {

@@ -1,7 +1,7 @@
 -- Workshop: how the code looks at the current record, at a place that the list always has, at the stored lists and at lent memory.
 use Prim.Native.Nat.{ℕ, _+_}
 use mathlib.Core.Bool.{Bool, false, cond, not, _||_}
-use mathlib.Core.List.{List}
+use mathlib.Core.List.{List, foldl}
 use lib.Dec.{ltb, eqb}
 use Rattle.pixels.specs.Run.{Store, written}
 use Rattle.lists.specs.Fixed.{places}
@@ -11,16 +11,15 @@ use Rattle.lists.specs.declared.Params.{Params}
 use Rattle.lists.specs.declared.TraceRecord.{TraceRecord}
 use Rattle.lists.specs.declared.Current.{Current}
 use Rattle.lists.specs.declared.Current.the-variants.{Nothing, At}
-use Rattle.chip.specs.Begin.{chipBegun}
 use Rattle.chip.specs.declared.InForce.{InForce}
 use Rattle.chip.specs.declared.InForce.the-variants.{Code}
 use Rattle.status.specs.Tests.{first, transferRow}
-use Rattle.st7789.specs.Parts.{withChip, withCounts}
-use Rattle.st7789.specs.Command.{countsBegun}
+use Rattle.st7789.specs.Command.{controllerBegun}
 use Rattle.st7789.specs.Refusals.{itself, clauses, counted}
 use Rattle.st7789.specs.declared.PanelMemory.{PanelMemory}
 use Rattle.st7789.specs.declared.PanelMemory.the-variants.{Lent, Without}
 use Rattle.st7789.specs.declared.Controller.{Controller}
+use Rattle.st7789.specs.declared.Logs.{Logs}
 
 -- The place of the current record, the first one where there is none.
 abbrev pub currentPlace : Current → ℕ
@@ -60,9 +59,13 @@ placeFor (Code c) = placeOf c
 abbrev pub storedPlace : Controller → ℕ
 storedPlace k = cond (k .chip .decoder .«in_pixels») 12 (placeFor (k .chip .decoder .cmd))
 
--- What a begun command leaves of the controller but for the logs.
-abbrev pub commandBegun : ℕ → ℕ → Controller → Controller
-commandBegun c t k = withCounts (countsBegun c (k .counts)) (withChip (chipBegun c t (k .chip)) k)
+-- Whether a place is free in the trace or among the warnings.
+abbrev pub anyFree : Logs → Bool
+anyFree l = ltb (l .traced) places || ltb (l .warned) places
+
+-- What commands leave of the controller, each after its lint.
+abbrev pub controllerBegunAll : ℕ → List ℕ → Controller → Controller
+controllerBegunAll t bytes k = foldl (λ k c. controllerBegun c t k) k bytes
 
 -- How much of n numbers a transfer takes as lent, and how many of them it may store to.
 abbrev pub cellsFor : PanelMemory → ℕ → ℕ

@@ -8,7 +8,7 @@ use Rattle.lists.specs.Fixed.{Fixed, places, used}
 use Rattle.lists.specs.Entries.{some, storedLong, recordLong}
 use Rattle.lists.specs.Params.{tooLong, differ}
 use Rattle.geometry.specs.Bounds.{windowBad, pointerBad}
-use Rattle.pixels.specs.Spans.{spanBad}
+use Rattle.marks.specs.Rows.{marksBad}
 use Rattle.status.specs.Tests.{first, transferRow, bareRow}
 use Rattle.lists.specs.declared.Params.{Params}
 use Rattle.lists.specs.declared.TraceRecord.{TraceRecord}
@@ -46,7 +46,7 @@ clauses k stored records current =
     -- or warnings count above 128;
     ∷ countBad (k .logs .warned)
     -- the dirty span has first above last, or last above 319;
-    ∷ spanBad (k .marks .dirty)
+    ∷ marksBad (k .marks)
     -- a current trace record isn't the last used one, or its parameters differ from those in force"
     ∷ current
     ∷ []

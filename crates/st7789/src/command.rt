@@ -1,9 +1,10 @@
 // Beginning a command, and the CS release: what becomes of the controller, and the record that the trace keeps.
 ghost use mathlib.Core.Path.{_≡_};
 ghost use mathlib.Core.Bool.{cond};
-ghost use Prim.Native.Nat.{_+_, _^_, _<_};
-ghost use Rattle.st7789.specs.Command.{countsBegun, logsBegun, begunRecord, controllerReleased};
-ghost use Rattle.st7789.specs.Places.{commandBegun};
+ghost use Prim.Native.Nat.{_+_, _^_, _≤_, _<_};
+ghost use lib.ListN.{length};
+ghost use Rattle.st7789.specs.Command.{countsBegun, logsBegun, begunRecord, controllerBegun, logsReleased, controllerReleased};
+ghost use Rattle.st7789.specs.Places.{anyFree, controllerBegunAll};
 use crate::Controller;
 use crate::Counts;
 use crate::Logs;
@@ -27,9 +28,30 @@ impl Counts {
 }
 
 impl Logs {
+    // Whether a command may leave a record or a warning: a place is free for one of them.
+    fn any_free(self) -> bool
+        ensures { λ r. ⌜ r ≡ anyFree self ⌝ }
+    {
+        let record = lists::free(self.traced, PLACES);
+        let warning = lists::free(self.warned, PLACES);
+        (record < PLACES) | (warning < PLACES)
+    }
+
+    // How far the commands from i on go together: one by itself, or all that are left where none can leave anything in a list.
+    pub(crate) fn reach(self, i: usize, end: usize) -> usize
+        requires { ⌜ i < end ⌝ }
+        ensures { λ r. ⌜ r ≡ cond (anyFree self) (i + 1) end ⌝ }
+        ensures { λ r. ⌜ (i < r) × (r ≤ end) ⌝ }
+    {
+        if self.any_free() {
+            return i + 1;
+        }
+        end
+    }
+
     // A record more, which is current, or none where no place is free.
-    pub(crate) fn begin(self) -> Logs
-        ensures { λ r. ⌜ r ≡ logsBegun (self .warned) self ⌝ }
+    fn begin(self) -> Logs
+        ensures { λ r. ⌜ r ≡ logsBegun self ⌝ }
     {
         let last = self.traced;
         if lists::free(last, PLACES) < PLACES {
@@ -39,6 +61,16 @@ impl Logs {
                 current: Current::At(last),
             };
         }
+        Logs {
+            current: Current::Nothing,
+            ..self
+        }
+    }
+
+    // No record is current any more.
+    fn release(self) -> Logs
+        ensures { λ r. ⌜ r ≡ logsReleased self ⌝ }
+    {
         Logs {
             current: Current::Nothing,
             ..self
@@ -60,18 +92,32 @@ pub(crate) fn begun_record(c: u8, t: u64) -> TraceRecord
 }
 
 impl Controller {
-    // Command c begins at time t. The logs, which go with the lists, begin it beside the controller.
+    // Command c begins at time t, after the lint.
     pub(crate) fn begin(mut self, c: u8, t: u64) -> Controller
         requires { ⌜ (self .counts .commands + 1 < 2 ^ 64) × (self .counts .«ramwr_count» + 1 < 2 ^ 64) ⌝ }
-        ensures { λ r. ⌜ r ≡ commandBegun c t self ⌝ }
+        ensures { λ r. ⌜ r ≡ controllerBegun c t self ⌝ }
     {
-        let old_chip = self.chip;
-        let old_counts = self.counts;
-        let chip = old_chip.begin(c, t);
-        let counts = old_counts.begin(c);
+        let chip = self.chip.begin(c, t);
+        let counts = self.counts.begin(c);
+        let logs = self.logs.begin();
         self.chip = chip;
         self.counts = counts;
+        self.logs = logs;
         self
+    }
+
+    // Each byte begins a command: what becomes of the controller.
+    pub(crate) fn begin_all(self, t: u64, bytes: &[u8]) -> Controller
+        requires { ⌜ (self .counts .commands + length (now bytes) < 2 ^ 64) × (self .counts .«ramwr_count» + length (now bytes) < 2 ^ 64) ⌝ }
+        ensures { λ r. ⌜ r ≡ controllerBegunAll t (now (bytes .entry)) self ⌝ }
+    {
+        let mut controller = self;
+        let mut i = 0;
+        while i < bytes.len() {
+            controller = controller.begin(bytes[i], t);
+            i += 1;
+        }
+        controller
     }
 
     // CS goes high, if asked: nothing is in force, no record is current, and the pointer stays.
@@ -79,13 +125,8 @@ impl Controller {
         ensures { λ r. ⌜ r ≡ cond «cs_release» (controllerReleased self) self ⌝ }
     {
         if cs_release {
-            let old_chip = self.chip;
-            let old_logs = self.logs;
-            let chip = old_chip.release();
-            let logs = Logs {
-                current: Current::Nothing,
-                ..old_logs
-            };
+            let chip = self.chip.release();
+            let logs = self.logs.release();
             self.chip = chip;
             self.logs = logs;
         }

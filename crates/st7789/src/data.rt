@@ -8,7 +8,6 @@ ghost use Rattle.st7789.specs.Data.{recordData, controllerData, storesIn
 ghost use Rattle.st7789.specs.Places.{heldFor, ifCurrent, storedPlace};
 ghost use Rattle.st7789.specs.Room.{Countable};
 use crate::Controller;
-use crate::Marks;
 use chip::InForce;
 use lists::Current;
 use lists::Stored;
@@ -81,19 +80,10 @@ impl Controller {
         let old_chip = self.chip;
         let decoder = old_chip.decoder;
         if decoder.in_pixels {
-            let old_marks = self.marks;
-            let old_dirty = old_marks.dirty;
-            let run = engine::write_pixels(
-                old_chip.window,
-                old_chip.registers.madctl,
-                old_chip.walk,
-                old_dirty,
-                bytes,
-                memory,
-            );
+            let site = old_chip.site();
+            let run = engine::write_pixels(site, old_chip.walk, self.marks, bytes, memory);
             let walk = run.walk;
-            let dirty = run.dirty;
-            let marks = Marks { dirty };
+            let marks = run.marks;
             let mut chip = old_chip;
             chip.walk = walk;
             self.chip = chip;

@@ -3,12 +3,11 @@ ghost use mathlib.Core.Path.{_≡_};
 ghost use lib.ListN.{length};
 ghost use Rattle.status.specs.Numbers.{number};
 ghost use Rattle.status.specs.Tests.{memoryRefusal};
-ghost use Rattle.st7789.specs.Entries.{freshController, emptyLists, freshPanel, newMemory, resetState, resetMemory};
+ghost use Rattle.st7789.specs.Entries.{freshController, emptyLists, freshPanel, newMemory, allMarked, resetState, resetMemory};
 use crate::Answer;
 use crate::Controller;
 use crate::Counts;
 use crate::Logs;
-use crate::Marks;
 use crate::St7789p3;
 use board::BoardDomain;
 use board::PanelConfig;
@@ -20,7 +19,7 @@ use lists::Params;
 use lists::Stored;
 use lists::TraceRecord;
 use lists::Warning;
-use pixels::Span;
+use marks::Marks;
 use status::accepted;
 
 impl Controller {
@@ -41,9 +40,7 @@ impl Controller {
             warned: 0,
             current: Current::Nothing,
         };
-        let marks = Marks {
-            dirty: Span::Nothing,
-        };
+        let marks = Marks::none();
         Controller {
             cfg,
             power,
@@ -91,6 +88,15 @@ impl St7789p3 {
         St7789p3::empty(controller)
     }
 
+    // As the board rail leaves it: fresh, and all rows marked.
+    fn renewed(cfg: PanelConfig) -> St7789p3
+        ensures { λ r. ⌜ r ≡ emptyLists (allMarked (freshController cfg)) ⌝ }
+    {
+        let fresh = Controller::fresh(cfg);
+        let controller = fresh.mark_all_dirty();
+        St7789p3::empty(controller)
+    }
+
     // A panel over lent memory, which is cleared. Refused, it is fresh all the same and the memory stays.
     pub fn new(cfg: PanelConfig, memory: &mut [u16]) -> Answer
         ensures refusal { λ r. ⌜ number (r .status) ≡ memoryRefusal (length (now (memory .entry))) ⌝ }
@@ -116,9 +122,7 @@ impl St7789p3 {
         let rail = board::is_board_rail(domain);
         if accepted(status) & rail {
             pixels::clear(memory);
-            let fresh = Controller::fresh(self.controller.cfg);
-            let controller = fresh.mark_all_dirty();
-            let panel = St7789p3::empty(controller);
+            let panel = St7789p3::renewed(self.controller.cfg);
             return Answer { panel, status };
         }
         Answer {

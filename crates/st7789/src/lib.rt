@@ -7,7 +7,7 @@ use lists::PLACES;
 use lists::Stored;
 use lists::TraceRecord;
 use lists::Warning;
-use pixels::Span;
+use marks::Marks;
 use status::Status;
 
 mod command;
@@ -30,11 +30,6 @@ pub struct Logs {
     pub traced: u8,
     pub warned: u8,
     pub current: Current,
-}
-
-// The rows that the next publishing copies.
-pub struct Marks {
-    pub dirty: Span,
 }
 
 // Everything but the lists.
@@ -66,7 +61,7 @@ pub struct Answer {
     pub status: Status,
 }
 
-pub struct Taken {
+pub struct HandedOver {
     pub panel: St7789p3,
     pub warnings: [Warning; PLACES],
     pub count: u8,

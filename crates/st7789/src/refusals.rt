@@ -46,8 +46,7 @@ impl Controller {
         let traced = lists::over(self.logs.traced, PLACES);
         let warned = lists::over(self.logs.warned, PLACES);
         let marks = self.marks;
-        let dirty = marks.dirty;
-        let span = pixels::span_bad(dirty);
+        let span = marks.bad();
         corner | (at | (in_force | (stored | (records | (traced | (warned | (span | current)))))))
     }
 

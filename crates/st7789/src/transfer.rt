@@ -64,11 +64,10 @@ impl St7789p3 {
                 status,
             };
         }
-        let mut logs = controller.logs;
         let mut i = 0;
         while i < bytes.len() {
             let c = bytes[i];
-            i += 1;
+            let end = controller.logs.reach(i, bytes.len());
             let broken = timing::lint(
                 controller.chip.times,
                 controller.chip.registers.colmod,
@@ -76,7 +75,7 @@ impl St7789p3 {
                 t,
             );
             let rules = broken.count();
-            let mut place = lists::free(logs.warned, PLACES);
+            let mut place = lists::free(controller.logs.warned, PLACES);
             let mut k = 0;
             while (k < rules) & (place < PLACES) {
                 let warning = Warning {
@@ -85,19 +84,19 @@ impl St7789p3 {
                     cmd: c,
                 };
                 self.warnings[place] = warning;
-                logs.warned = logs.warned + 1;
-                place = lists::free(logs.warned, PLACES);
+                let warned = controller.logs.warned + 1;
+                controller.logs.warned = warned;
+                place = lists::free(warned, PLACES);
                 k += 1;
             }
-            let free = lists::free(logs.traced, PLACES);
-            logs = logs.begin();
-            controller = controller.begin(c, t);
+            let free = lists::free(controller.logs.traced, PLACES);
+            controller = controller.begin_all(t, &bytes[i..end]);
+            i = end;
             if free < PLACES {
                 let begun = begun_record(c, t);
                 self.records[free] = begun;
             }
         }
-        controller.logs = logs;
         controller = controller.release(cs_release);
         self.controller = controller;
         Answer {

@@ -5,9 +5,9 @@ use mathlib.Core.Bool.{Bool, true, false, true≢false}
 use mathlib.Core.List.{List, [], _∷_}
 use lib.Dec.{eqb}
 use lib.ListN.{getD}
-use Rattle.lists.specs.Entries.{some, None}
+use Rattle.lists.specs.Entries.{some}
 use Rattle.lists.proofs.Bools.{neither}
-use Rattle.lists.proofs.Somes.{each-fails}
+use Rattle.lists.proofs.Somes.{None, each-fails}
 use Rattle.status.specs.Tests.{Test, first}
 
 -- Whether a test refuses.

@@ -3,7 +3,7 @@ ghost use mathlib.Core.Path.{_≡_};
 ghost use lib.Dec.{eqb};
 ghost use Rattle.lists.specs.Entries.{some};
 ghost use Rattle.status.specs.Numbers.{number};
-ghost use Rattle.status.specs.Tests.{first, high, memoryRefusal, transferRow};
+ghost use Rattle.status.specs.Tests.{first, high, memoryRefusal, viewRow, transferRow};
 
 pub const PANEL_PIXELS: usize = 76800;
 
@@ -65,6 +65,19 @@ pub fn memory_status(cells: usize) -> Status
         return Status::Ok;
     }
     Status::BadMemory
+}
+
+// BAD_MEMORY, then BAD_FRAME: the two lengths that a whole view and a publish ask for.
+pub fn view_status(cells: usize, room: usize) -> Status
+    ensures answer { λ r. ⌜ number r ≡ first (viewRow cells room) ⌝ }
+{
+    if cells != PANEL_PIXELS {
+        return Status::BadMemory;
+    }
+    if room != PANEL_PIXELS {
+        return Status::BadFrame;
+    }
+    Status::Ok
 }
 
 // The tests of a transfer: BAD_STATE, BAD_MEMORY, TOO_LONG, COUNT_HIGH, the first and the last told by what looked at the state.

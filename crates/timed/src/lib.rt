@@ -1,13 +1,13 @@
-// For timing from outside: what a host with memory calls, run many times over lent buffers. No rule of 01 stands here and no crate is above it.
+// For timing from outside: what a host calls, run many times over lent buffers. No rule of 01 stands here and no crate is above it.
 use board::PanelConfig;
 use board::Power;
 use chip::Registers;
-use pixels::Span;
+use marks::Marks;
+use marks::Span;
 use st7789::Answer;
 use st7789::Controller;
 use st7789::Counts;
 use st7789::Logs;
-use st7789::Marks;
 use st7789::PanelMemory;
 use st7789::St7789p3;
 use status::Status;
@@ -161,7 +161,7 @@ pub extern "C" fn timed_publish(
     let mut i = 0;
     while i < turns {
         let dirty = Span::Rows(first, last);
-        let marks = Marks { dirty };
+        let marks = Marks::of_span(dirty);
         let mut controller = panel.controller;
         controller.marks = marks;
         panel.controller = controller;
@@ -221,4 +221,16 @@ pub extern "C" fn timed_view(
         i += 1;
     }
     refused
+}
+
+// A log from its bytes to the report, again and again. The answer is the report's length.
+#[no_mangle]
+pub extern "C" fn timed_replay(log: &[u8], turns: usize, out: &mut [u8]) -> usize {
+    let mut length = 0;
+    let mut i = 0;
+    while i < turns {
+        length = replay::print_log(log, out);
+        i += 1;
+    }
+    length
 }

@@ -1,4 +1,2 @@
-pub mod Dimming
-pub mod Filling
+pub mod Seeing
 pub mod Rows
-pub mod Examples

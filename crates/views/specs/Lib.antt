@@ -1,3 +1,1 @@
-pub mod Light
 pub mod Views
-pub mod Examples

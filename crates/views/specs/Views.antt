@@ -1,16 +1,27 @@
 -- Rules: 01, "Fresh panel, views, publishing": one pixel of a view, a whole view, and a row lent out of memory.
 use Prim.Native.Nat.{ℕ, _+_, _*_}
-use mathlib.Core.Bool.{Bool, cond, not, _&&_}
+use mathlib.Core.Bool.{Bool, cond, not, _&&_, Bool·beq}
 use mathlib.Core.List.{List, [], map}
 use lib.ListN.{length, getD, take, drop}
 use lib.Dec.{ltb, eqb}
 use Rattle.status.specs.Tests.{first, viewRow, memoryRefusal}
 use Rattle.status.specs.Numbers.{unlessRefused}
 use Rattle.st7789.specs.declared.Controller.{Controller}
-use Rattle.views.specs.Light.{lightOf, viewed}
-use Rattle.views.specs.declared.FrameView.{FrameView}
+use Rattle.light.specs.Light.{viewed}
+use Rattle.light.specs.declared.FrameView.{FrameView}
+use Rattle.light.specs.declared.Light.{Light}
 use Rattle.views.specs.declared.Memory.{Memory}
 use Rattle.views.specs.declared.Memory.the-variants.{Panel, Frame}
+
+-- What a view goes by: whether the panel is "powered, awake and on", whether "inversion equals the switch", and the brightness pair.
+unfoldable pub lightOf : Controller → Light
+lightOf s =
+    record {
+      lit = s .power .powered && (not (s .chip .registers .sleeping) && s .chip .registers .«display_on»);
+      plain = Bool·beq (s .chip .registers .inverted) (s .cfg .«invon_shows_ram»);
+      level = s .power .level;
+      scale = s .power .scale;
+    }
 
 -- "A pixel asked for outside the panel is 0, not refused."; refused, "no value (0 where a number is due)".
 unfoldable pub pixelSeen : FrameView → Controller → ℕ → ℕ → List ℕ → ℕ

@@ -1,4 +1,4 @@
-//! The re-implementation's entry points for timing, as the archives of its crates `timed` and `timed_log` export them.
+//! The re-implementation's entry points for timing, as the archive of its crate `timed` exports them.
 //! A lent slice goes over as a pointer and a length. Nothing checks these lines against its source.
 
 mod foreign {

@@ -3,19 +3,18 @@ use mathlib.Core.Path.{refl, sym, _∙_}
 use lib.ListN.{length}
 use native.Mathlib.Omega.{arith}
 use borrow.Author.Needs.{needs}
-use Rattle.views.proofs.Filling.{Filled, filled-first, filled-next, filled-last}
-use Rattle.publishing.proofs.Copies.{same-numbers}
+use Rattle.lists.proofs.Mapping.{Mapped, mapped-first, mapped-next, mapped-same}
 use Rattle.publishing.proofs.copy_row.Statement.{statement}
 use Rattle.publishing.proofs.copy_row.Tie as tie
 
 abbrev Inv-loop : tie.InvT-loop
-Inv-loop from to₀ i₀ to i = Filled (λ n. n) from to i
+Inv-loop from to₀ i₀ to i = Mapped (λ n. n) from to i
 
 abbrev μ-loop : tie.MeasureT-loop
 μ-loop from to₀ i₀ to i = length from - i
 
 loop-holds : tie.Need-loop-holds Inv-loop μ-loop
-loop-holds c = filled-first (c .pre)
+loop-holds c = mapped-first (c .pre)
 
 mul-to : tie.Need-mul-to Inv-loop μ-loop
 mul-to c = search needs
@@ -36,13 +35,13 @@ loop-less : tie.Need-loop-less Inv-loop μ-loop
 loop-less c = search needs
 
 loop-again : tie.Need-loop-again Inv-loop μ-loop
-loop-again c = filled-next (c .before .before .loop .inv) (c .before .loop-test .taken) refl
+loop-again c = mapped-next (c .before .before .loop .inv) (c .before .loop-test .taken) refl
 
 same-length : tie.Need-same-length Inv-loop μ-loop
 same-length c = c .before .loop .inv .long ∙ sym (c .before .before .pre)
 
 returns : tie.Need-returns Inv-loop μ-loop
-returns c = filled-last (c .before .loop .inv) (c .loop-test .left) ∙ same-numbers _
+returns c = mapped-same (c .before .loop .inv) (c .loop-test .left)
 
 pub copy-row-spec : {M : Type 1} → statement M
 copy-row-spec =

@@ -1,4 +1,4 @@
-use Rattle.publishing.proofs.Refusing.{number-told, span-ready, all-told}
+use Rattle.publishing.proofs.Refusing.{span-told, number-told, span-ready, all-told}
 use borrow.Author.Needs.{needs}
 use mathlib.Core.Path.{ap, _∙_}
 use lib.Dec.{eqb}
@@ -14,6 +14,9 @@ publish-status-requires c κs = search needs
 accepted-requires : tie.Need-accepted-requires
 accepted-requires c κs = search needs
 
+span-requires : tie.Need-span-requires
+span-requires c κs = search needs
+
 flags-if-requires : tie.Need-flags-if-requires
 flags-if-requires c κs = search needs
 
@@ -21,19 +24,24 @@ span-if-requires : tie.Need-span-if-requires
 span-if-requires c κs = search needs
 
 copy-span-requires : tie.Need-copy-span-requires
-copy-span-requires c κs = let a = c .before .before .before .before .before .before .before .before .before .before .args in span-ready (a .panel) _ _ _ (number-told (a .panel) _ _ (c .before .before .before .before .before .before .before .bad-state .ensures) (c .before .before .before .before .before .before .publish-status .ensures)) (c .before .before .before .before .before .accepted .ensures) (c .before .span-if .ensures)
+copy-span-requires c κs =
+    let panel = c .before .before .before .before .before .before .before .before .before .before .before .args .panel in
+    let n = number-told panel _ _ (c .before .before .before .before .before .before .before .before .bad-state .ensures) (c .before .before .before .before .before .before .before .publish-status .ensures) in
+    span-ready panel _ _ _ n (c .before .before .before .before .before .before .accepted .ensures) (span-told (c .before .before .before .before .before .before .accepted .result) (panel .controller .marks) (c .before .span-if .ensures) (c .before .before .before .span .ensures))
 
-span-if-requires-2 : tie.Need-span-if-requires-2
-span-if-requires-2 c κs = search needs
+marks-if-requires : tie.Need-marks-if-requires
+marks-if-requires c κs = search needs
 
 same-length : tie.Need-same-length
 same-length c = search needs
 
 returns : tie.Need-returns
 returns c =
-    let a = c .before .before .before .before .before .before .before .before .before .before .before .before .before .before .args in
-    let n = number-told (a .panel) _ _ (c .before .before .before .before .before .before .before .before .before .before .before .bad-state .ensures) (c .before .before .before .before .before .before .before .before .before .before .publish-status .ensures) in
-    all-told (a .panel) (a .memory .now) (a .frame .now) (c .before .before .before .before .before .before .before .before .before .before .publish-status .result) _ n (c .before .before .before .before .before .before .before .before .before .accepted .ensures ∙ ap (λ k. eqb k 0) n) (c .before .before .before .before .before .span-if .ensures) (c .span-if2 .ensures) (c .before .before .before .before .before .before .flags-if .ensures) (c .before .before .before .copy-span .ensures)
+    let a = c .before .before .before .before .before .before .before .before .before .before .before .before .before .before .before .args in
+    let told = c .before .before .before .before .before .before .before .before .before .before .before .publish-status in
+    let n = number-told (a .panel) _ _ (c .before .before .before .before .before .before .before .before .before .before .before .before .bad-state .ensures) (told .ensures) in
+    all-told (a .panel) (a .memory .now) (a .frame .now) (told .result) _ n (c .before .before .before .before .before .before .before .before .before .before .accepted .ensures ∙ ap (λ k. eqb k 0) n)
+    (span-told (c .before .before .before .before .before .before .before .before .before .before .accepted .result) (a .panel .controller .marks) (c .before .before .before .before .before .span-if .ensures) (c .before .before .before .before .before .before .before .span .ensures)) (c .marks-if .ensures) (c .before .before .before .before .before .before .flags-if .ensures) (c .before .before .before .copy-span .ensures)
 
 pub publish-spec : {M : Type 1} → statement M
 publish-spec =
@@ -42,9 +50,10 @@ publish-spec =
     bad-state-requires
     publish-status-requires
     accepted-requires
+    span-requires
     flags-if-requires
     span-if-requires
     copy-span-requires
-    span-if-requires-2
+    marks-if-requires
     same-length
     returns)

@@ -1,12 +1,21 @@
-use mathlib.Core.Path.{sym, ap}
+use Prim.Native.Nat.{ℕ}
+use mathlib.Core.Path.{_≡_}
+use mathlib.Core.List.{[], _∷_}
+use borrow.Author.Tests.{eq-eqb, ne-eqb}
 use Rattle.text.proofs.Text.{put-same}
+use Rattle.lines.specs.Lines.{ascii, line}
 use Rattle.report.specs.Report.{bootLine}
 use borrow.Author.Needs.{needs}
 use Rattle.report.proofs.put_boot.Statement.{statement}
 use Rattle.report.proofs.put_boot.Tie as tie
 
-enum-told : tie.Need-enum-told
-enum-told c = search needs
+matched : (step : ℕ) → step ≡ 0 → line (ascii "boot ok") [] ≡ bootLine step
+unfolding bootLine
+matched step e = rw (eq-eqb step 0 e)
+
+left : (step : ℕ) → (step ≡ 0 → ⊥) → line (ascii "boot") (step ∷ []) ≡ bootLine step
+unfolding bootLine
+left step h = rw (ne-eqb step 0 h)
 
 slice-aggregate-put-line : tie.Need-slice-aggregate-put-line
 slice-aggregate-put-line c = search needs
@@ -17,14 +26,14 @@ slice-aggregate-put-line-2 c = search needs
 put-line-requires : tie.Need-put-line-requires
 put-line-requires c κs = search needs
 
-enum-known-check : tie.Need-enum-known-check
-enum-known-check c = search needs
+same-length : tie.Need-same-length
+same-length c = search needs
+
+returns : tie.Need-returns
+returns c = put-same _ _ (matched (c .before .before .before .before .before .before .before .before .args .step) (c .before .before .before .before .before .before .if1 .taken)) (c .before .before .put-line .ensures)
 
 slice-aggregate-put-line-3 : tie.Need-slice-aggregate-put-line-3
 slice-aggregate-put-line-3 c = search needs
-
-cast-t22 : tie.Need-cast-t22
-cast-t22 c = search needs
 
 slice-aggregate-put-line-4 : tie.Need-slice-aggregate-put-line-4
 slice-aggregate-put-line-4 c = search needs
@@ -32,63 +41,23 @@ slice-aggregate-put-line-4 c = search needs
 put-line-requires-2 : tie.Need-put-line-requires-2
 put-line-requires-2 c κs = search needs
 
-enum-known-check-2 : tie.Need-enum-known-check-2
-enum-known-check-2 c = search needs
-
-slice-aggregate-put-line-5 : tie.Need-slice-aggregate-put-line-5
-slice-aggregate-put-line-5 c = search needs
-
-cast-t30 : tie.Need-cast-t30
-cast-t30 c = search needs
-
-slice-aggregate-put-line-6 : tie.Need-slice-aggregate-put-line-6
-slice-aggregate-put-line-6 c = search needs
-
-put-line-requires-3 : tie.Need-put-line-requires-3
-put-line-requires-3 c κs = search needs
-
-same-length : tie.Need-same-length
-same-length c = search needs
-
-returns : tie.Need-returns
-unfolding bootLine
-returns c = put-same _ _ (ap bootLine (sym (c .before .before .before .before .before .before .enum-told .given .1))) (c .before .before .put-line .ensures)
-
 same-length-2 : tie.Need-same-length-2
 same-length-2 c = search needs
 
 returns-2 : tie.Need-returns-2
-unfolding bootLine
-returns-2 c = put-same _ _ (ap bootLine (sym (c .before .before .before .before .before .before .before .check .given .1))) (c .before .before .put-line2 .ensures)
-
-same-length-3 : tie.Need-same-length-3
-same-length-3 c = search needs
-
-returns-3 : tie.Need-returns-3
-unfolding bootLine
-returns-3 c = put-same _ _ (ap bootLine (sym (c .before .before .before .before .before .before .before .check2 .given .1))) (c .before .before .put-line3 .ensures)
+returns-2 c = put-same _ _ (left (c .before .before .before .before .before .before .before .before .args .step) (c .before .before .before .before .before .before .if1 .left)) (c .before .before .put-line2 .ensures)
 
 pub put-boot-spec : {M : Type 1} → statement M
 put-boot-spec =
     tie.close
     (tie.spec
-    enum-told
     slice-aggregate-put-line
     slice-aggregate-put-line-2
     put-line-requires
-    enum-known-check
-    slice-aggregate-put-line-3
-    cast-t22
-    slice-aggregate-put-line-4
-    put-line-requires-2
-    enum-known-check-2
-    slice-aggregate-put-line-5
-    cast-t30
-    slice-aggregate-put-line-6
-    put-line-requires-3
     same-length
     returns
+    slice-aggregate-put-line-3
+    slice-aggregate-put-line-4
+    put-line-requires-2
     same-length-2
-    returns-2
-    same-length-3
-    returns-3)
+    returns-2)

@@ -21,6 +21,9 @@ fresh-requires c κs = search needs
 loop-holds : tie.Need-loop-holds Inv-loop μ-loop
 loop-holds c = search needs
 
+of-span-requires : tie.Need-of-span-requires Inv-loop μ-loop
+of-span-requires c κs = search needs
+
 publish-requires : tie.Need-publish-requires Inv-loop μ-loop
 publish-requires c κs = search needs
 
@@ -28,7 +31,7 @@ counted-requires : tie.Need-counted-requires Inv-loop μ-loop
 counted-requires c κs = search needs
 
 add-i : tie.Need-add-i Inv-loop μ-loop
-add-i c = omega (arith, c .before .before .before .before .before .before .before .loop-test .taken, c .before .before .before .before .before .before .before .before .before .before .before .before .before .fits .turns .fits)
+add-i c = omega (arith, c .before .before .before .before .before .before .before .before .loop-test .taken, c .before .before .before .before .before .before .before .before .before .before .before .before .before .before .fits .turns .fits)
 
 loop-less : tie.Need-loop-less Inv-loop μ-loop
 loop-less c = search needs
@@ -51,6 +54,7 @@ timed-publish-spec =
     new-requires
     fresh-requires
     loop-holds
+    of-span-requires
     publish-requires
     counted-requires
     add-i

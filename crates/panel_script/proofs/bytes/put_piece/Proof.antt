@@ -16,14 +16,20 @@ refused-requires c κs = search needs
 returns : tie.Need-returns
 returns c = search needs
 
+all-hex-requires : tie.Need-all-hex-requires
+all-hex-requires c κs = search needs
+
 refused-requires-2 : tie.Need-refused-requires-2
 refused-requires-2 c κs = search needs
 
 returns-2 : tie.Need-returns-2
 returns-2 c = search needs
 
-all-hex-requires : tie.Need-all-hex-requires
-all-hex-requires c κs = search needs
+sub-if3 : tie.Need-sub-if3
+sub-if3 c = search needs
+
+div-if3 : tie.Need-div-if3
+div-if3 c = search needs
 
 refused-requires-3 : tie.Need-refused-requires-3
 refused-requires-3 c κs = search needs
@@ -31,38 +37,20 @@ refused-requires-3 c κs = search needs
 returns-3 : tie.Need-returns-3
 returns-3 c = search needs
 
-refused-requires-4 : tie.Need-refused-requires-4
-refused-requires-4 c κs = search needs
-
-returns-4 : tie.Need-returns-4
-returns-4 c = search needs
-
-sub-if5 : tie.Need-sub-if5
-sub-if5 c = search needs
-
-div-if5 : tie.Need-div-if5
-div-if5 c = search needs
-
-refused-requires-5 : tie.Need-refused-requires-5
-refused-requires-5 c κs = search needs
-
-returns-5 : tie.Need-returns-5
-returns-5 c = search needs
-
 mul-total : tie.Need-mul-total
-mul-total c = omega (arith, total-fits (c .before .before .before .before .before .before .if1 .left) (c .if5 .left))
+mul-total c = omega (arith, total-fits (c .before .before .before .before .if1 .left) (c .if3 .left))
 
 put-pairs-requires : tie.Need-put-pairs-requires
-put-pairs-requires c κs = omega (arith, total-fits (c .before .before .before .before .before .before .before .if1 .left) (c .before .if5 .left))
+put-pairs-requires c κs = omega (arith, total-fits (c .before .before .before .before .before .if1 .left) (c .before .if3 .left))
 
-add-t11 : tie.Need-add-t11
-add-t11 c = omega (arith, total-fits (c .before .before .before .before .before .before .before .before .before .before .if1 .left) (c .before .before .before .before .if5 .left))
+add-t9 : tie.Need-add-t9
+add-t9 c = omega (arith, total-fits (c .before .before .before .before .before .before .before .before .if1 .left) (c .before .before .before .before .if3 .left))
 
 same-length : tie.Need-same-length
 same-length c = search needs
 
-returns-6 : tie.Need-returns-6
-returns-6 c = omega (arith, c .before .before .put-pairs .kept .1 .1 .0, total-fits (c .before .before .before .before .before .before .before .before .before .before .if1 .left) (c .before .before .before .before .if5 .left))
+returns-4 : tie.Need-returns-4
+returns-4 c = omega (arith, c .before .before .put-pairs .kept .1 .1 .0, total-fits (c .before .before .before .before .before .before .before .before .if1 .left) (c .before .before .before .before .if3 .left))
 
 pub put-piece-spec : {M : Type 1} → statement M
 put-piece-spec =
@@ -72,19 +60,15 @@ put-piece-spec =
     times-requires
     refused-requires
     returns
+    all-hex-requires
     refused-requires-2
     returns-2
-    all-hex-requires
+    sub-if3
+    div-if3
     refused-requires-3
     returns-3
-    refused-requires-4
-    returns-4
-    sub-if5
-    div-if5
-    refused-requires-5
-    returns-5
     mul-total
     put-pairs-requires
-    add-t11
+    add-t9
     same-length
-    returns-6)
+    returns-4)

@@ -15,11 +15,11 @@ over-requires c κs = search needs
 over-requires-2 : tie.Need-over-requires-2
 over-requires-2 c κs = search needs
 
-span-bad-requires : tie.Need-span-bad-requires
-span-bad-requires c κs = search needs
+bad-requires : tie.Need-bad-requires
+bad-requires c κs = search needs
 
 returns : tie.Need-returns
-returns c = simp (or-false, c .span-bad .ensures, c .before .before .over2 .ensures, c .before .before .before .over .ensures, c .before .before .before .before .before .pointer-bad .ensures, c .before .before .before .before .before .before .window-bad .ensures)
+returns c = simp (or-false, c .bad .ensures, c .before .before .over2 .ensures, c .before .before .before .over .ensures, c .before .before .before .before .before .pointer-bad .ensures, c .before .before .before .before .before .before .window-bad .ensures)
 
 pub bad-spec : {M : Type 1} → statement M
 bad-spec =
@@ -29,5 +29,5 @@ bad-spec =
     pointer-bad-requires
     over-requires
     over-requires-2
-    span-bad-requires
+    bad-requires
     returns)

@@ -1,3 +1,4 @@
+use Rattle.chip.specs.Begin.{chipBegun}
 use borrow.Author.Needs.{needs}
 use Rattle.st7789.proofs.Controller.begin.Statement.{statement}
 use Rattle.st7789.proofs.Controller.begin.Tie as tie
@@ -8,8 +9,12 @@ begin-requires c κs = search needs
 begin-requires-2 : tie.Need-begin-requires-2
 begin-requires-2 c κs = search needs
 
+begin-requires-3 : tie.Need-begin-requires-3
+begin-requires-3 c κs = search needs
+
 returns : tie.Need-returns
-returns c = simp (c .begin2 .ensures, c .before .begin .ensures)
+unfolding chipBegun
+returns c = simp (c .begin3 .ensures, c .before .begin2 .ensures, c .before .before .begin .ensures)
 
 pub begin-spec : {M : Type 1} → statement M
-begin-spec = tie.close (tie.spec begin-requires begin-requires-2 returns)
+begin-spec = tie.close (tie.spec begin-requires begin-requires-2 begin-requires-3 returns)

@@ -1,19 +1,31 @@
-use Rattle.st7789.proofs.Datas.{pixels-fit, dropped-fit, data-run, data-lost, data-for, stores-run, stores-none}
+use Rattle.st7789.proofs.Datas.{walked-at, pixels-fit, dropped-fit, data-run, data-lost, data-for, stores-run, stores-none}
 use borrow.Author.Needs.{needs}
 use Rattle.st7789.proofs.Controller.data.Statement.{statement}
 use Rattle.st7789.proofs.Controller.data.Tie as tie
+
+site-requires : tie.Need-site-requires
+site-requires c κs = search needs
 
 write-pixels-requires : tie.Need-write-pixels-requires
 write-pixels-requires c κs = search needs
 
 add-pixels : tie.Need-add-pixels
-add-pixels c = let a = c .before .before .before .before .before .before .before .before .before .before .before .before .before .args in pixels-fit (a .self) (a .bytes .now) (c .before .before .before .before .before .before .before .before .before .before .before .before .before .pre) _ (c .before .before .before .before .before .write-pixels .ensures .0)
+add-pixels c =
+    let a = c .before .before .before .before .before .before .before .before .before .before .before .before .before .before .args in
+    let w = c .before .before .before .before .before .before .write-pixels in
+    let site = c .before .before .before .before .before .before .before .before .site in
+    pixels-fit (a .self) (a .bytes .now) (c .before .before .before .before .before .before .before .before .before .before .before .before .before .before .pre) _ (walked-at (a .self) (a .bytes .now) (site .ensures) (w .ensures .0))
 
 same-length : tie.Need-same-length
 same-length c = search needs
 
 returns : tie.Need-returns
-returns c = let a = c .before .before .before .before .before .before .before .before .before .before .before .before .before .before .args in (data-run (a .self) (a .bytes .now) _ (c .before .before .before .before .before .before .before .before .before .if1 .taken) (c .before .before .before .before .before .before .write-pixels .ensures .0), stores-run (a .self) (a .bytes .now) (a .memory .now) (c .before .before .before .before .before .before .before .before .before .if1 .taken) (c .before .before .before .before .before .before .write-pixels .ensures .1))
+returns c =
+    let a = c .before .before .before .before .before .before .before .before .before .before .before .before .before .before .before .args in
+    let w = c .before .before .before .before .before .before .before .write-pixels in
+    let site = c .before .before .before .before .before .before .before .before .before .site in
+    let run-on = c .before .before .before .before .before .before .before .before .before .before .if1 .taken in
+    (data-run (a .self) (a .bytes .now) _ run-on (walked-at (a .self) (a .bytes .now) (site .ensures) (w .ensures .0)), stores-run (a .self) (a .bytes .now) (a .memory .now) run-on (site .ensures) (w .ensures .1))
 
 enum-told : tie.Need-enum-told
 enum-told c = search needs
@@ -40,6 +52,7 @@ pub data-spec : {M : Type 1} → statement M
 data-spec =
     tie.close
     (tie.spec
+    site-requires
     write-pixels-requires
     add-pixels
     same-length

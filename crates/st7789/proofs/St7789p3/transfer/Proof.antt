@@ -1,4 +1,4 @@
-use Prim.Native.Nat.{_-_, min}
+use Prim.Native.Nat.{_-_, _<_, min}
 use mathlib.Core.Path.{_≡_, refl, ap, _∙_}
 use mathlib.Core.Bool.{true}
 use native.Mathlib.Omega.{arith}
@@ -6,15 +6,13 @@ use borrow.Author.Needs.{needs}
 use borrow.Author.Tests.{not-true, not-false}
 use lib.ListN.{length, take}
 use Rattle.lists.specs.Entries.{recordLong}
-use Rattle.lists.specs.declared.Stored.{Stored}
 use Rattle.lists.specs.declared.TraceRecord.{TraceRecord}
-use Rattle.lists.proofs.Stored as stored
 use Rattle.lists.proofs.TraceRecord as traceRecord
 use Rattle.lists.proofs.Scanning.{unmapped, Gather, gathered}
-use Rattle.lists.proofs.Putting.{put-free, put-none}
+use Rattle.lists.proofs.Putting.{put-free}
 use Rattle.timing.specs.Lint.{rulesOf}
 use Rattle.status.specs.Numbers.{number}
-use Rattle.st7789.specs.Parts.{withController, withLogs}
+use Rattle.st7789.specs.Parts.{withController}
 use Rattle.st7789.specs.Command.{warning}
 use Rattle.st7789.specs.Data.{recordData}
 use Rattle.st7789.specs.Places.{cellsFor}
@@ -22,7 +20,7 @@ use Rattle.st7789.specs.Refusals.{transferRefusal}
 use Rattle.st7789.specs.Room.{Room}
 use Rattle.st7789.proofs.Tests.{scan-start, scan-on, refused, held-here, put-here}
 use Rattle.st7789.proofs.Accepted.{room, refusal-none, new-left, old-left}
-use Rattle.st7789.proofs.Commands.{within-both, record-put, record-full, Kept, kept-first, kept-next, kept-last, begun-put, Turn, turn-first, turn-next, turn-last}
+use Rattle.st7789.proofs.Commands.{within-both, record-put, record-full, Kept, kept-first, kept-next, kept-counts, kept-last, turn-first, turn-last, PanelTurn, part-room, panel-part}
 use Rattle.st7789.proofs.Moves.{end-within, moved-data, moved-commands, stored-data, stored-none, stored-put, stored-nowhere, data-put, answer-with}
 use Rattle.st7789.proofs.St7789p3.transfer.Statement.{statement}
 use Rattle.st7789.proofs.St7789p3.transfer.Tie as tie
@@ -36,19 +34,19 @@ abbrev μ-loop : tie.MeasureT-loop
     used - j
 
 abbrev Inv-loop3 : tie.InvT-loop3
-Inv-loop3 t dc bytes cs-release memory self₀ controller stored-long used long j at cells status logs₀ i c broken rules place₀ k₀ self logs place k =
-    Kept (warning c t) (rulesOf broken) self₀ logs₀ self logs k × (place ≡ min (logs .warned) 128)
+Inv-loop3 t dc bytes cs-release memory self₀ controller₀ stored-long used long j at cells status i c end broken rules place₀ k₀ self controller place k =
+    Kept (warning c t) (rulesOf broken) (withController controller₀ self₀) (withController controller self) k × (place ≡ min (controller .logs .warned) 128)
 
 abbrev μ-loop3 : tie.MeasureT-loop3
-μ-loop3 t dc bytes cs-release memory self₀ controller stored-long used long j at cells status logs₀ i c broken rules place₀ k₀ self logs place k =
+μ-loop3 t dc bytes cs-release memory self₀ controller₀ stored-long used long j at cells status i c end broken rules place₀ k₀ self controller place k =
     rules - k
 
 abbrev Inv-loop2 : tie.InvT-loop2
-Inv-loop2 t dc bytes cs-release memory self₀ controller₀ stored-long used long j at cells status logs₀ i₀ self controller logs i =
-    Turn t bytes self₀ (withController (withLogs logs controller) self) i
+Inv-loop2 t dc bytes cs-release memory self₀ controller₀ stored-long used long j at cells status i₀ self controller i =
+    PanelTurn t bytes self₀ (withController controller self) i
 
 abbrev μ-loop2 : tie.MeasureT-loop2
-μ-loop2 t dc bytes cs-release memory self₀ controller₀ stored-long used long j at cells status logs₀ i₀ self controller logs i =
+μ-loop2 t dc bytes cs-release memory self₀ controller₀ stored-long used long j at cells status i₀ self controller i =
     length bytes - i
 
 -- The refusal, once the tests are done; and what is known where they passed.
@@ -60,6 +58,10 @@ passed c = not-false (c .before .accepted .result) (c .if1 .left)
 
 roomy : (c : tie.Else1 Inv-loop μ-loop Inv-loop3 μ-loop3 Inv-loop2 μ-loop2) → Room (length (c .before .before .before .before .before .before .before .before .before .before .before .before .before .before .args .bytes .now)) (c .before .before .before .before .before .before .before .before .before .before .before .before .before .before .args .t1)
 roomy c = room (c .before .before .before .before .before .before .before .before .before .before .before .before .before .before .args .t1) (cellsFor (c .before .before .before .before .before .before .before .before .before .before .before .before .before .before .args .«panel-memory») (length (c .before .before .before .before .before .before .before .before .before .before .before .before .before .before .args .memory .now))) (length (c .before .before .before .before .before .before .before .before .before .before .before .before .before .before .args .bytes .now)) (refusal-none (told (c .before .before)) (c .before .accepted .ensures) (passed c))
+
+-- The test of the loop over the rules.
+in-rules : (c : tie.In-loop3 Inv-loop μ-loop Inv-loop3 μ-loop3 Inv-loop2 μ-loop2) → (c .before .loop3 .k < c .before .before .before .count .result) × (c .before .loop3 .place < 128)
+in-rules c = within-both (c .before .loop3 .k) (c .before .loop3 .place) refl (c .loop3-test .taken)
 
 stored-long-requires :
     tie.Need-stored-long-requires Inv-loop μ-loop Inv-loop3 μ-loop3 Inv-loop2 μ-loop2
@@ -162,54 +164,73 @@ same-length-2 : tie.Need-same-length-2 Inv-loop μ-loop Inv-loop3 μ-loop3 Inv-l
 same-length-2 c = search needs
 
 returns-3 : tie.Need-returns-3 Inv-loop μ-loop Inv-loop3 μ-loop3 Inv-loop2 μ-loop2
-returns-3 c = let a = c .before .before .before .before .before .before .before .before .before .before .before .before .before .before .before .before .before .before .before .before .before .before .before .before .before .args in let s = a .t1 in let e = told (c .before .before .before .before .before .before .before .before .before .before .before .before .before) in let o = c .before .before .before .before .before .before .before .before .before .before .before .before .accepted .ensures in let y = passed (c .before .before .before .before .before .before .before .before .before .before .before) in let d = c .before .before .before .before .before .«data» .ensures in answer-with (a .«panel-memory») (a .t) (a .dc) (a .bytes .now) (a .«cs-release») (a .memory .now) s e (new-left e o _ y (moved-data (a .t) (a .bytes .now) (a .«cs-release») s (c .before .before .before .before .before .before .before .before .before .before .if2 .taken) (data-put (a .bytes .now) s (d .0) (stored-nowhere (a .bytes .now) (s .controller) (s .stored) (c .before .before .before .before .before .before .before .before .before .stored-place .ensures) (unmapped Stored (stored.the-field .row .Denot) (stored.the-field .into) (c .before .before .before .before .before .before .before .before .before .before .before .before .before .before .before .before .before .before .before .before .before .before .before .before .before .args .t1 .stored) 12 (c .before .before .before .before .before .before .before .before .before .before .before .before .before .before .before .before .before .before .before .before .before .before .before .before .before .good .0 .1 .1 .1 .0 .1 .0 .1)) (c .if3 .left)) (put-here (recordData (a .bytes .now) (s .controller)) (s .controller .logs .current) (s .records) _ _ (roomy (c .before .before .before .before .before .before .before .before .before .before .before) .current) (c .before .before .before .before .before .before .before .before .before .before .before .before .before .before .before .before .place .ensures .0) (c .before .before .before .before .before .before .before .before .noted .ensures))) (c .before .release .ensures))) (new-left e o _ y (stored-data (a .«panel-memory») (a .bytes .now) (a .memory .now) (s .controller) (c .before .before .before .before .before .before .before .end .ensures) (c .before .before .before .before .before .before .before .before .before .before .if2 .taken) (d .1)))
+returns-3 c = let a = c .before .before .before .before .before .before .before .before .before .before .before .before .before .before .before .before .before .before .before .before .before .before .before .before .before .args in let s = a .t1 in let e = told (c .before .before .before .before .before .before .before .before .before .before .before .before .before) in let o = c .before .before .before .before .before .before .before .before .before .before .before .before .accepted .ensures in let y = passed (c .before .before .before .before .before .before .before .before .before .before .before) in let d = c .before .before .before .before .before .«data» .ensures in answer-with (a .«panel-memory») (a .t) (a .dc) (a .bytes .now) (a .«cs-release») (a .memory .now) s e (new-left e o _ y (moved-data (a .t) (a .bytes .now) (a .«cs-release») s (c .before .before .before .before .before .before .before .before .before .before .if2 .taken) (data-put (a .bytes .now) s (d .0) (stored-nowhere (a .bytes .now) (s .controller) (s .stored) (c .before .before .before .before .before .before .before .before .before .stored-place .ensures) (c .if3 .left)) (put-here (recordData (a .bytes .now) (s .controller)) (s .controller .logs .current) (s .records) _ _ (roomy (c .before .before .before .before .before .before .before .before .before .before .before) .current) (c .before .before .before .before .before .before .before .before .before .before .before .before .before .before .before .before .place .ensures .0) (c .before .before .before .before .before .before .before .before .noted .ensures))) (c .before .release .ensures))) (new-left e o _ y (stored-data (a .«panel-memory») (a .bytes .now) (a .memory .now) (s .controller) (c .before .before .before .before .before .before .before .end .ensures) (c .before .before .before .before .before .before .before .before .before .before .if2 .taken) (d .1)))
 
 loop2-holds : tie.Need-loop2-holds Inv-loop μ-loop Inv-loop3 μ-loop3 Inv-loop2 μ-loop2
-loop2-holds c = turn-first (roomy (c .before .before) .counts)
+loop2-holds c = let r = roomy (c .before) .counts in turn-first (r .commands) (r .ramwrs)
 
 shared-slice-read-c :
     tie.Need-shared-slice-read-c Inv-loop μ-loop Inv-loop3 μ-loop3 Inv-loop2 μ-loop2
 shared-slice-read-c c = search needs
 
-add-i : tie.Need-add-i Inv-loop μ-loop Inv-loop3 μ-loop3 Inv-loop2 μ-loop2
-add-i c = search needs
+reach-requires : tie.Need-reach-requires Inv-loop μ-loop Inv-loop3 μ-loop3 Inv-loop2 μ-loop2
+reach-requires c κs = search needs
 
 lint-requires : tie.Need-lint-requires Inv-loop μ-loop Inv-loop3 μ-loop3 Inv-loop2 μ-loop2
 lint-requires c κs = search needs
 
-loop3-holds : tie.Need-loop3-holds Inv-loop μ-loop Inv-loop3 μ-loop3 Inv-loop2 μ-loop2
-loop3-holds c = (kept-first, c .free2 .ensures)
+count-requires : tie.Need-count-requires Inv-loop μ-loop Inv-loop3 μ-loop3 Inv-loop2 μ-loop2
+count-requires c κs = search needs
 
 free-requires-2 : tie.Need-free-requires-2 Inv-loop μ-loop Inv-loop3 μ-loop3 Inv-loop2 μ-loop2
 free-requires-2 c κs = search needs
 
-add-k : tie.Need-add-k Inv-loop μ-loop Inv-loop3 μ-loop3 Inv-loop2 μ-loop2
-add-k c = omega (arith, within-both (c .before .before .before .before .loop3 .k) (c .before .before .before .before .loop3 .place) refl (c .before .before .before .loop3-test .taken) .0)
+loop3-holds : tie.Need-loop3-holds Inv-loop μ-loop Inv-loop3 μ-loop3 Inv-loop2 μ-loop2
+loop3-holds c = (kept-first, c .free2 .ensures)
+
+rule-requires : tie.Need-rule-requires Inv-loop μ-loop Inv-loop3 μ-loop3 Inv-loop2 μ-loop2
+rule-requires c κs = search needs
 
 mul-warning : tie.Need-mul-warning Inv-loop μ-loop Inv-loop3 μ-loop3 Inv-loop2 μ-loop2
-mul-warning c = omega (arith, within-both (c .before .before .loop3 .k) (c .before .before .loop3 .place) (c .before .before .before .before .count .ensures) (c .before .loop3-test .taken) .1)
+mul-warning c = omega (arith, in-rules (c .before) .1)
 
 element-set-from-warning :
     tie.Need-element-set-from-warning Inv-loop μ-loop Inv-loop3 μ-loop3 Inv-loop2 μ-loop2
-element-set-from-warning c = omega (arith, within-both (c .before .before .loop3 .k) (c .before .before .loop3 .place) (c .before .before .before .before .count .ensures) (c .before .loop3-test .taken) .1)
+element-set-from-warning c = omega (arith, in-rules (c .before) .1)
 
-add-logs : tie.Need-add-logs Inv-loop μ-loop Inv-loop3 μ-loop3 Inv-loop2 μ-loop2
-add-logs c = omega (arith, c .before .before .before .loop3 .inv .1, within-both (c .before .before .before .loop3 .k) (c .before .before .before .loop3 .place) (c .before .before .before .before .before .count .ensures) (c .before .before .loop3-test .taken) .1)
-
-loop3-less : tie.Need-loop3-less Inv-loop μ-loop Inv-loop3 μ-loop3 Inv-loop2 μ-loop2
-loop3-less c = omega (arith, within-both (c .before .before .before .before .loop3 .k) (c .before .before .before .before .loop3 .place) refl (c .before .before .before .loop3-test .taken) .0)
-
-loop3-again : tie.Need-loop3-again Inv-loop μ-loop Inv-loop3 μ-loop3 Inv-loop2 μ-loop2
-loop3-again c = let l = c .before .before .before .before .loop3 in let h = within-both (c .before .before .before .before .loop3 .k) (c .before .before .before .before .loop3 .place) (c .before .before .before .before .before .before .count .ensures) (c .before .before .before .loop3-test .taken) in (kept-next (l .inv .0) (h .0) (c .before .before .rule .ensures) (put-free 128 (l .logs .warned) (l .inv .1) (l .self .warnings) _ (h .1)) refl refl refl, c .free3 .ensures)
+add-warned : tie.Need-add-warned Inv-loop μ-loop Inv-loop3 μ-loop3 Inv-loop2 μ-loop2
+add-warned c = omega (arith, c .before .before .before .loop3 .inv .1, in-rules (c .before .before) .1)
 
 free-requires-3 : tie.Need-free-requires-3 Inv-loop μ-loop Inv-loop3 μ-loop3 Inv-loop2 μ-loop2
 free-requires-3 c κs = search needs
 
-begin-requires : tie.Need-begin-requires Inv-loop μ-loop Inv-loop3 μ-loop3 Inv-loop2 μ-loop2
-begin-requires c κs = search needs
+add-k : tie.Need-add-k Inv-loop μ-loop Inv-loop3 μ-loop3 Inv-loop2 μ-loop2
+add-k c = omega (arith, in-rules (c .before .before .before .before) .0)
 
-begin-requires-2 : tie.Need-begin-requires-2 Inv-loop μ-loop Inv-loop3 μ-loop3 Inv-loop2 μ-loop2
-begin-requires-2 c κs = let u = c .before .before .before .before .before .before .before .before .before .loop2 .inv in (omega (arith, u .commands, c .before .before .before .before .before .before .before .before .loop2-test .taken), omega (arith, u .ramwrs, c .before .before .before .before .before .before .before .before .loop2-test .taken))
+loop3-less : tie.Need-loop3-less Inv-loop μ-loop Inv-loop3 μ-loop3 Inv-loop2 μ-loop2
+loop3-less c = omega (arith, in-rules (c .before .before .before .before) .0)
+
+loop3-again : tie.Need-loop3-again Inv-loop μ-loop Inv-loop3 μ-loop3 Inv-loop2 μ-loop2
+loop3-again c = let l = c .before .before .before .before .before .loop3 in let h = in-rules (c .before .before .before .before) in (kept-next (l .inv .0) (rw (c .before .before .before .before .before .before .before .count .ensures) at (h .0)) (c .before .before .before .rule .ensures) (put-free 128 (l .controller .logs .warned) (l .inv .1) (l .self .warnings) _ (h .1)) (λ f. refl), c .free3 .ensures)
+
+free-requires-4 : tie.Need-free-requires-4 Inv-loop μ-loop Inv-loop3 μ-loop3 Inv-loop2 μ-loop2
+free-requires-4 c κs = search needs
+
+sub-begin-all : tie.Need-sub-begin-all Inv-loop μ-loop Inv-loop3 μ-loop3 Inv-loop2 μ-loop2
+sub-begin-all c = omega (arith, c .before .before .before .before .before .before .reach .ensures .1 .0)
+
+part-begin-all-start :
+    tie.Need-part-begin-all-start Inv-loop μ-loop Inv-loop3 μ-loop3 Inv-loop2 μ-loop2
+part-begin-all-start c = omega (arith, c .before .before .before .before .before .before .reach .ensures .1 .0)
+
+part-begin-all-end :
+    tie.Need-part-begin-all-end Inv-loop μ-loop Inv-loop3 μ-loop3 Inv-loop2 μ-loop2
+part-begin-all-end c = omega (arith, c .before .before .before .before .before .before .reach .ensures .1 .1)
+
+begin-all-requires :
+    tie.Need-begin-all-requires Inv-loop μ-loop Inv-loop3 μ-loop3 Inv-loop2 μ-loop2
+begin-all-requires c κs =
+    part-room (c .before .before .before .before .before .before .before .before .before .before .before .before .before .before .before .before .before .before .before .before .before .before .before .before .before .before .args .t) (c .before .before .before .before .before .before .before .before .before .before .loop2 .inv) (c .before .before .before .before .before .before .before .reach .ensures .1 .1) (kept-counts (c .before .before .before .loop3 .inv .0))
 
 begun-record-requires :
     tie.Need-begun-record-requires Inv-loop μ-loop Inv-loop3 μ-loop3 Inv-loop2 μ-loop2
@@ -223,32 +244,43 @@ element-set-from-begun :
 element-set-from-begun c = search needs
 
 loop2-less : tie.Need-loop2-less Inv-loop μ-loop Inv-loop3 μ-loop3 Inv-loop2 μ-loop2
-loop2-less c = omega (arith, c .before .before .before .before .before .before .before .before .before .before .before .loop2-test .taken)
+loop2-less c = omega (arith, c .before .before .before .before .before .before .before .before .before .before .before .before .loop2-test .taken, c .before .before .before .before .before .before .before .before .before .before .reach .ensures .1 .0)
 
 loop2-again : tie.Need-loop2-again Inv-loop μ-loop Inv-loop3 μ-loop3 Inv-loop2 μ-loop2
-loop2-again c = let l = c .before .before .before .before .before .before .before .before .before .before .before .before .loop2 in let u = c .before .before .before .before .before .before .loop3 in turn-next (l .inv) (c .before .before .before .before .before .before .before .before .before .before .before .loop2-test .taken) (begun-put _ _ (l .controller) (l .logs) (l .self) (u .logs) (ap rulesOf (c .before .before .before .before .before .before .before .before .before .lint .ensures)) (kept-last (u .inv .0) (u .inv .1) (c .before .before .before .before .before .before .before .before .count .ensures) (c .before .before .before .before .before .loop3-test .left)) (u .inv .0 .traced) (c .before .before .before .begin .ensures) (c .before .before .begin2 .ensures) (u .inv .0 .stored) (record-put (l .logs .traced) (c .before .before .before .before .free4 .ensures ∙ ap (λ n. min n 128) (u .inv .0 .traced)) (u .inv .0 .«records») (c .before .if4 .taken) (c .begun-record .ensures)))
+loop2-again c =
+    let l = c .before .before .before .before .before .before .before .before .before .before .before .before .before .loop2 in
+    let u = c .before .before .before .before .before .before .loop3 in
+    let kept = kept-last (u .inv .0) (u .inv .1) (c .before .before .before .before .before .before .before .before .count .ensures) (c .before .before .before .before .before .loop3-test .left) in
+    panel-part _ (l .inv) (c .before .before .before .before .before .before .before .before .before .before .before .before .loop2-test .taken) (c .before .before .before .before .before .before .before .before .before .before .reach .ensures .0) (c .before .before .before .before .before .before .before .before .before .lint .ensures) kept (c .before .before .begin-all .ensures)
+    (record-put (withController (u .controller) (u .self)) (c .before .before .before .before .free4 .ensures) (c .before .if4 .taken) (c .begun-record .ensures))
 
 loop2-less-2 : tie.Need-loop2-less-2 Inv-loop μ-loop Inv-loop3 μ-loop3 Inv-loop2 μ-loop2
-loop2-less-2 c = omega (arith, c .before .before .before .before .before .before .before .before .before .before .loop2-test .taken)
+loop2-less-2 c = omega (arith, c .before .before .before .before .before .before .before .before .before .before .before .loop2-test .taken, c .before .before .before .before .before .before .before .before .before .reach .ensures .1 .0)
 
 loop2-again-2 : tie.Need-loop2-again-2 Inv-loop μ-loop Inv-loop3 μ-loop3 Inv-loop2 μ-loop2
-loop2-again-2 c = let l = c .before .before .before .before .before .before .before .before .before .before .before .loop2 in let u = c .before .before .before .before .before .loop3 in turn-next (l .inv) (c .before .before .before .before .before .before .before .before .before .before .loop2-test .taken) (begun-put _ _ (l .controller) (l .logs) (l .self) (u .logs) (ap rulesOf (c .before .before .before .before .before .before .before .before .lint .ensures)) (kept-last (u .inv .0) (u .inv .1) (c .before .before .before .before .before .before .before .count .ensures) (c .before .before .before .before .loop3-test .left)) (u .inv .0 .traced) (c .before .before .begin .ensures) (c .before .begin2 .ensures) (u .inv .0 .stored) (record-full (l .logs .traced) (c .before .before .before .free4 .ensures ∙ ap (λ n. min n 128) (u .inv .0 .traced)) (u .inv .0 .«records») _ (c .if4 .left)))
+loop2-again-2 c =
+    let l = c .before .before .before .before .before .before .before .before .before .before .before .before .loop2 in
+    let u = c .before .before .before .before .before .loop3 in
+    let kept = kept-last (u .inv .0) (u .inv .1) (c .before .before .before .before .before .before .before .count .ensures) (c .before .before .before .before .loop3-test .left) in
+    panel-part _ (l .inv) (c .before .before .before .before .before .before .before .before .before .before .before .loop2-test .taken) (c .before .before .before .before .before .before .before .before .before .reach .ensures .0) (c .before .before .before .before .before .before .before .before .lint .ensures) kept (c .before .begin-all .ensures)
+    (record-full (withController (u .controller) (u .self)) (c .before .before .before .free4 .ensures) _ (c .if4 .left))
 
 release-requires-2 :
     tie.Need-release-requires-2 Inv-loop μ-loop Inv-loop3 μ-loop3 Inv-loop2 μ-loop2
 release-requires-2 c κs = search needs
 
 returns-4 : tie.Need-returns-4 Inv-loop μ-loop Inv-loop3 μ-loop3 Inv-loop2 μ-loop2
-returns-4 c = let a = c .before .before .before .before .before .before .before .before .before .before .before .before .before .before .before .before .before .before .before .args in let s = a .t1 in let e = told (c .before .before .before .before .before .before .before) in let o = c .before .before .before .before .before .before .accepted .ensures in let y = passed (c .before .before .before .before .before) in answer-with (a .«panel-memory») (a .t) (a .dc) (a .bytes .now) (a .«cs-release») (a .memory .now) s e (new-left e o _ y (moved-commands (a .t) (a .bytes .now) (a .«cs-release») s (c .before .before .before .before .if2 .left) (turn-last (c .before .before .loop2 .inv) (c .before .loop2-test .left)) (c .release2 .ensures))) (new-left e o _ y (stored-none (a .«panel-memory») (a .bytes .now) (a .memory .now) (s .controller) (c .before .before .before .before .if2 .left)))
-
-free-requires-4 : tie.Need-free-requires-4 Inv-loop μ-loop Inv-loop3 μ-loop3 Inv-loop2 μ-loop2
-free-requires-4 c κs = search needs
-
-count-requires : tie.Need-count-requires Inv-loop μ-loop Inv-loop3 μ-loop3 Inv-loop2 μ-loop2
-count-requires c κs = search needs
-
-rule-requires : tie.Need-rule-requires Inv-loop μ-loop Inv-loop3 μ-loop3 Inv-loop2 μ-loop2
-rule-requires c κs = search needs
+returns-4 c =
+    let a = c .before .before .before .before .before .before .before .before .before .before .before .before .before .before .before .before .before .before .args in
+    let s = a .t1 in
+    let e = told (c .before .before .before .before .before .before) in
+    let o = c .before .before .before .before .before .accepted .ensures in
+    let y = passed (c .before .before .before .before) in
+    let commands = c .before .before .before .if2 .left in
+    answer-with (a .«panel-memory») (a .t) (a .dc) (a .bytes .now) (a .«cs-release») (a .memory .now) s e
+    (new-left e o _ y
+    (moved-commands (a .t) (a .bytes .now) (a .«cs-release») s commands (turn-last (c .before .before .loop2 .inv) (c .before .loop2-test .left)) (c .release2 .ensures)))
+    (new-left e o _ y (stored-none (a .«panel-memory») (a .bytes .now) (a .memory .now) (s .controller) commands))
 
 pub transfer-spec : {M : Type 1} → statement M
 transfer-spec =
@@ -294,7 +326,7 @@ transfer-spec =
     returns-3
     loop2-holds
     shared-slice-read-c
-    add-i
+    reach-requires
     lint-requires
     count-requires
     free-requires-2
@@ -302,14 +334,16 @@ transfer-spec =
     rule-requires
     mul-warning
     element-set-from-warning
-    add-logs
+    add-warned
     free-requires-3
     add-k
     loop3-less
     loop3-again
     free-requires-4
-    begin-requires
-    begin-requires-2
+    sub-begin-all
+    part-begin-all-start
+    part-begin-all-end
+    begin-all-requires
     begun-record-requires
     mul-begun
     element-set-from-begun

@@ -1,0 +1,140 @@
+// The chip as it comes up, and by a command: its begin, its data, the CS release.
+ghost use mathlib.Core.Path.{_≡_};
+ghost use Rattle.chip.specs.Begin.{freshChip, chipBegun, chipReleased};
+ghost use Rattle.chip.specs.Site.{siteOf};
+ghost use Rattle.chip.specs.Apply.{chipFilled, appliedIfDue, chipTaken};
+use crate::Chip;
+use crate::Decoder;
+use crate::Registers;
+use crate::walk::begun_walk;
+use crate::window::applied_window;
+use crate::window::begun_window;
+use crate::window::full_window;
+use geometry::Pointer;
+use geometry::Site;
+use pixels::Carry;
+use pixels::Walk;
+use timing::Times;
+
+impl Chip {
+    pub fn fresh() -> Chip
+        ensures answer { λ r. ⌜ r ≡ freshChip ⌝ }
+    {
+        let registers = Registers {
+            sleeping: true,
+            display_on: false,
+            inverted: false,
+            madctl: 0x00,
+            colmod: 0x66,
+            ramctrl0: 0x00,
+            ramctrl1: 0x00,
+        };
+        let window = full_window(0x00);
+        let pointer = Pointer { x: 0, y: 0 };
+        let walk = Walk {
+            pointer,
+            carry: Carry::Empty,
+        };
+        let decoder = Decoder::idle();
+        let times = Times::fresh();
+        Chip {
+            registers,
+            window,
+            walk,
+            decoder,
+            times,
+        }
+    }
+
+    // Where its pixels go.
+    pub fn site(self) -> Site
+        ensures answer { λ r. ⌜ r ≡ siteOf self ⌝ }
+    {
+        let window = self.window;
+        Site {
+            window,
+            madctl: self.registers.madctl,
+        }
+    }
+
+    // Command c begins at time t.
+    pub fn begin(self, c: u8, t: u64) -> Chip
+        ensures answer { λ r. ⌜ r ≡ chipBegun c t self ⌝ }
+    {
+        let old = self.registers;
+        let old_window = self.window;
+        let old_walk = self.walk;
+        let old_times = self.times;
+        let registers = old.begin(c);
+        let window = begun_window(c, old.madctl, old_window);
+        let walk = begun_walk(c, old_window, old_walk);
+        let decoder = Decoder::begun(c);
+        let times = old_times.after(c, t);
+        Chip {
+            registers,
+            window,
+            walk,
+            decoder,
+            times,
+        }
+    }
+
+    fn fill(self, bytes: &[u8]) -> Chip
+        ensures { λ r. ⌜ r ≡ chipFilled (now (bytes .entry)) self ⌝ }
+    {
+        let old = self.decoder;
+        let before = old.params;
+        let params = before.append(bytes);
+        let decoder = Decoder { params, ..old };
+        Chip { decoder, ..self }
+    }
+
+    fn apply(self, c: u8) -> Chip
+        ensures { λ r. ⌜ r ≡ appliedIfDue c self ⌝ }
+    {
+        let old = self.decoder;
+        if !old.is_due(c) {
+            return self;
+        }
+        let params = old.params;
+        let old_registers = self.registers;
+        let old_window = self.window;
+        let registers = old_registers.apply(c, params);
+        let window = applied_window(c, params, old_registers.madctl, old_window);
+        let decoder = Decoder {
+            applied: true,
+            ..old
+        };
+        Chip {
+            registers,
+            window,
+            decoder,
+            ..self
+        }
+    }
+
+    // Data for command c.
+    pub fn take(self, c: u8, bytes: &[u8]) -> Chip
+        ensures answer { λ r. ⌜ r ≡ chipTaken c (now (bytes .entry)) self ⌝ }
+    {
+        let filled = self.fill(bytes);
+        filled.apply(c)
+    }
+
+    // CS goes high: nothing is in force, and the pointer stays.
+    pub fn release(self) -> Chip
+        ensures answer { λ r. ⌜ r ≡ chipReleased self ⌝ }
+    {
+        let old = self.walk;
+        let walk = Walk {
+            carry: Carry::Empty,
+            ..old
+        };
+        let decoder = Decoder::idle();
+        Chip {
+            walk,
+            decoder,
+            ..self
+        }
+    }
+}

@@ -1,0 +1,60 @@
+// The window: the full one, what a begun command leaves of it, and its corners from a command's parameters.
+ghost use mathlib.Core.Path.{_≡_};
+ghost use Prim.Native.Nat.{_<_, min};
+ghost use Rattle.chip.specs.Begin.{fullWindow, windowBegun};
+ghost use Rattle.chip.specs.Apply.{numberAt, windowApplied};
+use crate::decoding::byte_at;
+use geometry::Window;
+use lists::Params;
+use pixels::bytewise::joined;
+
+pub(crate) fn full_window(madctl: u8) -> Window
+    ensures { λ r. ⌜ r ≡ fullWindow madctl ⌝ }
+{
+    let xe = geometry::col_max(madctl);
+    let ye = geometry::row_max(madctl);
+    Window {
+        xs: 0,
+        xe,
+        ys: 0,
+        ye,
+    }
+}
+
+pub(crate) fn begun_window(c: u8, madctl: u8, window: Window) -> Window
+    ensures { λ r. ⌜ r ≡ windowBegun c madctl window ⌝ }
+{
+    if c == 0x01 {
+        return full_window(madctl);
+    }
+    window
+}
+
+// The corner at a place of the parameters, cut down.
+fn corner(params: Params, i: usize, most: u16) -> u16
+    requires { ⌜ i < 13 ⌝ }
+    ensures { λ r. ⌜ r ≡ min (numberAt params i) most ⌝ }
+{
+    let at = joined(byte_at(params, i), byte_at(params, i + 1));
+    if at < most { at } else { most }
+}
+
+pub(crate) fn applied_window(c: u8, params: Params, madctl: u8, window: Window) -> Window
+    ensures { λ r. ⌜ r ≡ windowApplied c params madctl window ⌝ }
+{
+    match c {
+        0x2A => {
+            let most = geometry::col_max(madctl);
+            let xs = corner(params, 0, most);
+            let xe = corner(params, 2, most);
+            Window { xs, xe, ..window }
+        }
+        0x2B => {
+            let most = geometry::row_max(madctl);
+            let ys = corner(params, 0, most);
+            let ye = corner(params, 2, most);
+            Window { ys, ye, ..window }
+        }
+        _ => window,
+    }
+}

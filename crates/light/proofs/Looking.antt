@@ -1,0 +1,54 @@
+-- A view as a look, and a part of memory seen.
+use Prim.Native.Nat.{ℕ, _-_}
+use mathlib.Core.Path.{_≡_, refl, sym, ap, _∙_}
+use mathlib.Core.Bool.{Bool, true, false, cond}
+use mathlib.Core.List.{List, map}
+use borrow.Author.Tests.{eq-eqb, ne-eqb}
+use lib.ListN.{length}
+use Rattle.light.specs.Light.{dimmed, glassOf, viewed, partSeen}
+use Rattle.light.specs.Looks.{looked}
+use Rattle.light.specs.declared.FrameView.{FrameView}
+use Rattle.light.specs.declared.FrameView.the-variants.{Raw, Glass, Perceived}
+use Rattle.light.specs.declared.Light.{Light}
+use Rattle.light.specs.declared.Look.{Look}
+use Rattle.lists.proofs.Mapping.{map-same}
+use Rattle.light.proofs.Channels.{dimmed-black}
+
+-- A number by a look, dimmed or not.
+module _ (k : Look) (raw : ℕ) {g : ℕ} (eg : g ≡ glassOf (k .light) raw) where
+  pub look-dimmed : {r : ℕ} → k .dims ≡ true → r ≡ dimmed g (k .light .level) (k .light .scale) → r ≡ looked k raw
+  look-dimmed e er = rw e (er ∙ ap (λ v. dimmed v (k .light .level) (k .light .scale)) eg)
+
+  pub look-plain : k .dims ≡ false → g ≡ looked k raw
+  look-plain e = rw e eg
+
+-- A look at each view.
+module _ {view : FrameView} (l : Light) (raw : ℕ) where
+  pub as-raw : view ≡ Raw → raw ≡ viewed view l raw
+  unfolding viewed
+  as-raw e = rw e
+
+  pub as-glass : view ≡ Glass → glassOf l raw ≡ viewed view l raw
+  unfolding viewed
+  as-glass e = rw e
+
+  pub as-perceived : view ≡ Perceived → looked (record { light = l; dims = l .lit }) raw ≡ viewed view l raw
+  unfolding viewed
+  as-perceived e = rw e (by-light (l .lit) (cond (l .plain) raw (65535 - raw)))
+    where
+      by-light :
+          (b : Bool) (v : ℕ) → cond b (dimmed (cond b v 0) (l .level) (l .scale)) (cond b v 0) ≡ dimmed (cond b v 0) (l .level) (l .scale)
+      by-light true v = refl
+      by-light false v = sym (dimmed-black (l .level) (l .scale))
+
+-- The ways out of `fill`.
+module _ (view : FrameView) (l : Light) (from to : List ℕ) where
+  pub not-as-long : (length to ≡ length from → ⊥) → to ≡ partSeen view l from to
+  unfolding partSeen
+  not-as-long h = rw (ne-eqb (length to) (length from) h)
+
+  pub as-long :
+      (k : Look) {out : List ℕ} → length to ≡ length from → ((raw : ℕ) → looked k raw ≡ viewed view l raw) → out ≡ map (looked k) from →
+      out ≡ partSeen view l from to
+  unfolding partSeen
+  as-long k h e o = rw (eq-eqb (length to) (length from) h) (o ∙ map-same (looked k) (viewed view l) e from)

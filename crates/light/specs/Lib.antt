@@ -1,0 +1,3 @@
+pub mod Light
+pub mod Looks
+pub mod Examples

@@ -1,0 +1,33 @@
+-- Rules: what the examples and the impostors are said with: a transfer as a call, a panel with its memory, and what a call leaves of it as
+-- `transfer` promises.
+use Prim.Native.Nat.{ℕ}
+use mathlib.Core.Bool.{Bool, true}
+use mathlib.Core.List.{List}
+use lib.ListN.{length, replicate}
+use Rattle.board.specs.Board.{switchedTo}
+use Rattle.st7789.specs.Entries.{freshPanel, transferred, transferMemory}
+use Rattle.st7789.specs.declared.St7789p3.{St7789p3}
+
+-- A transfer.
+pub record Call : Type 0 where
+  pub time : ℕ
+  pub dc : Bool
+  pub bytes : List ℕ
+  pub release : Bool
+
+-- A panel's state and its memory.
+pub record Panel : Type 0 where
+  pub state : St7789p3
+  pub memory : List ℕ
+
+-- "fresh panel unless said"
+abbrev pub fresh : Panel
+fresh = record { state = freshPanel (switchedTo true); memory = replicate 76800 0 }
+
+-- The panel after a call, as `transfer` promises it.
+abbrev pub after : Panel → Call → Panel
+after p c =
+    record {
+      state = transferred (c .time) (c .dc) (c .bytes) (c .release) (length (p .memory)) (p .state);
+      memory = transferMemory (c .dc) (c .bytes) (p .memory) (p .state);
+    }

@@ -19,7 +19,7 @@ use Rattle.st7789.specs.Data.{ran, taken, dataIn}
 use Rattle.st7789.specs.Refusals.{badState, transferRefusal}
 use Rattle.st7789.specs.Entries.{freshController, emptyLists, moved, transferred, transferMemory, resetState, resetMemory}
 use Rattle.publishing.specs.Publish.{publishRefusal, published, publishedFrame}
-use Rattle.hosts.specs.Calls.{Host, Call, Accepted, freshHost, refusal, step, run}
+use Rattle.hosts.specs.Calls.{Host, Call, Accepted, freshHost, refusal, step, defined, run}
 use Rattle.hosts.specs.Hosts.{rest, part, between, Makes, done, besides, same, sends, Demand3}
 use Rattle.hosts.specs.Instance.{plan, first, second, leftOver}
 use Rattle.hosts.proofs.Hosts.{two-hosts}
@@ -42,7 +42,7 @@ abbrev passes : Host → List Call → Bool
 passes h [] = true
 passes h (c ∷ calls) = eqb (refusal h c) 0 && passes (step h c) calls
 
-passed : (h : Host) (calls : List Call) → passes h calls ≡ true → Accepted h calls
+passed : (h : Host) (calls : List Call) → passes h calls ≡ true → Accepted defined h calls
 passed h [] e = tt
 passed h (c ∷ calls) e =
     let b = both (eqb (refusal h c) 0) (passes (step h c) calls) e in
@@ -65,10 +65,10 @@ second-passes : passes shown second ≡ true
 unfolding opened
 second-passes = refl
 
-pub first-and-second : Demand3 (switchedTo true) first second
+pub first-and-second : Demand3 defined defined (switchedTo true) first second
 first-and-second =
     two-hosts (switchedTo true) plan first second first-makes second-makes (passed shown first first-passes) (passed shown second second-passes)
 
-second-left : leftOver (run shown second) ≡ true
+second-left : leftOver (run defined shown second) ≡ true
 unfolding opened
 second-left = refl

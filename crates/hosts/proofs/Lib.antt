@@ -1,4 +1,6 @@
 pub mod Settings
+pub mod Operations
+pub mod Tallies
 pub mod Twins
 pub mod Spans
 pub mod Fits

@@ -7,7 +7,7 @@ use native.Mathlib.Omega.{arith}
 use lib.ListN.{length, getD, drop, replicate, length-replicate, length-take, length-drop}
 use lib.Seq.{ext-getD, getD-take, getD-drop}
 use Rattle.status.specs.Tests.{memoryRefusal}
-use Rattle.status.proofs.Unless.{unless-none, unless-either}
+use Rattle.status.proofs.Unless.{unless-none}
 use Rattle.marks.specs.Rows.{isMarked, spanOf}
 use Rattle.marks.specs.declared.Marks.{Marks}
 use Rattle.pixels.specs.Run.{written, rowOf, zeroed}
@@ -16,26 +16,22 @@ use Rattle.board.specs.declared.PanelConfig.{PanelConfig}
 use Rattle.st7789.specs.Data.{storesIn}
 use Rattle.st7789.specs.Refusals.{transferRefusal}
 use Rattle.st7789.specs.Entries.{freshController, emptyLists, railReset, moved, transferred, transferMemory, resetState, resetMemory}
-use Rattle.st7789.specs.declared.St7789p3.{St7789p3}
 use Rattle.st7789.proofs.Tests.{clause}
 use Rattle.laws.specs.Valid.{Good}
 use Rattle.laws.proofs.Marks.{unmarked, moved-marks}
 use Rattle.laws.proofs.Stores.{in-panel}
-use Rattle.laws.proofs.Reach.{transferred-good, fresh-good, unmarked-good, marked-good, reset-good}
+use Rattle.laws.proofs.Reach.{transferred-good, fresh-good, marked-good, reset-good}
 use Rattle.publishing.specs.Publish.{spanCopied, published, publishedFrame}
 use Rattle.publishing.proofs.Refusing.{none-bad}
 use Rattle.publishing.proofs.Rows.{all-copied}
-use Rattle.hosts.specs.Calls.{Host, Call, commands, segment, publish, reset, markAll, sets, looks, freshHost, refusal, step, run, Accepted}
+use Rattle.hosts.specs.Calls.{Host, Call, commands, segment, publish, reset, markAll, sets, looks, freshHost, refusal, step, defined, run, Accepted}
 use Rattle.hosts.specs.Hosts.{Since, nothingSince, noted, sinceFrom, since, marksOf, rowIn, EveryMoment}
 use Rattle.hosts.proofs.Settings.{settled-good, settled-marks}
+use Rattle.hosts.proofs.Operations.{published-good}
 use Rattle.hosts.proofs.Spans.{none-marked}
 use Rattle.hosts.proofs.Fits.{Fits, stores-fit, all-fit}
 
 -- Every call keeps a state good.
-published-good : (n : ℕ) (s : St7789p3) → Good s → Good (published n s)
-unfolding published
-published-good n s g = unless-either n (unmarked s) s Good (unmarked-good s g) g
-
 step-good : (h : Host) (c : Call) → Good (h .panel) → Good (step h c .panel)
 unfolding step
 step-good h (commands t bytes cs) g = transferred-good t false bytes cs (length (h .memory)) (h .panel) g
@@ -46,7 +42,7 @@ step-good h markAll g = marked-good (h .panel) g
 step-good h (sets x) g = settled-good x (h .panel) g
 step-good h (looks x) g = g
 
-pub run-good : (h : Host) (calls : List Call) → Good (h .panel) → Good (run h calls .panel)
+pub run-good : (h : Host) (calls : List Call) → Good (h .panel) → Good (run defined h calls .panel)
 run-good h [] g = g
 run-good h (c ∷ calls) g = run-good (step h c) calls (step-good h c g)
 
@@ -108,7 +104,7 @@ step-fits h s markAll e g v = all-fit (h .memory) (h .frame) (s .rows) (v .memor
 step-fits h s (sets x) e g v = fits-as refl (settled-marks x (h .panel)) v
 step-fits h s (looks x) e g v = v
 
-run-fits : (h : Host) (s : Since) (calls : List Call) → Accepted h calls → Good (h .panel) → HostFits h s → HostFits (run h calls) (sinceFrom h s calls)
+run-fits : (h : Host) (s : Since) (calls : List Call) → Accepted defined h calls → Good (h .panel) → HostFits h s → HostFits (run defined h calls) (sinceFrom defined h s calls)
 run-fits h s [] a g v = v
 run-fits h s (c ∷ calls) a g v = run-fits (step h c) (noted h s c) calls (a .1) (step-good h c g) (step-fits h s c (a .0) g v)
 
@@ -120,11 +116,11 @@ unfolding freshController emptyLists
 fresh-fits cfg = record { memory-long = zeros-long; frame-long = zeros-long; alike = λ r column _ _. refl; marks = none-marked }
 
 -- From a fresh panel.
-module _ (cfg : PanelConfig) (calls : List Call) (a : Accepted (freshHost cfg) calls) where
-  pub end-good : Good (run (freshHost cfg) calls .panel)
+module _ (cfg : PanelConfig) (calls : List Call) (a : Accepted defined (freshHost cfg) calls) where
+  pub end-good : Good (run defined (freshHost cfg) calls .panel)
   end-good = run-good (freshHost cfg) calls (fresh-good cfg)
 
-  pub end-fits : HostFits (run (freshHost cfg) calls) (since cfg calls)
+  pub end-fits : HostFits (run defined (freshHost cfg) calls) (since defined cfg calls)
   end-fits = run-fits (freshHost cfg) nothingSince calls a (fresh-good cfg) (fresh-fits cfg)
 
 -- Rows that are not marked are the same.
@@ -137,30 +133,30 @@ row-same r h s v out =
     at : (l : List ℕ) (i : ℕ) → i < 240 → getD (rowIn r l) i 0 ≡ getD l (r * 240 + i) 0
     at l i j = getD-take 240 (drop (r * 240) l) i 0 j ∙ getD-drop (r * 240) l i 0
 
-accepted-front : (h : Host) (made left : List Call) → Accepted h (made ++ left) → Accepted h made
+accepted-front : (h : Host) (made left : List Call) → Accepted defined h (made ++ left) → Accepted defined h made
 accepted-front h [] left a = tt
 accepted-front h (c ∷ made) left a = (a .0, accepted-front (step h c) made left (a .1))
 
-pub every-moment : (cfg : PanelConfig) (calls : List Call) → Accepted (freshHost cfg) calls → EveryMoment cfg calls
+pub every-moment : (cfg : PanelConfig) (calls : List Call) → Accepted defined (freshHost cfg) calls → EveryMoment defined cfg calls
 every-moment cfg calls a made left e =
     record { differing = λ r n. go r n (isMarked (marksOf h) r) refl; span = v .marks }
   where
     h : Host
-    h = run (freshHost cfg) made
+    h = run defined (freshHost cfg) made
 
-    v : HostFits h (since cfg made)
+    v : HostFits h (since defined cfg made)
     v = end-fits cfg made (accepted-front (freshHost cfg) made left (rw e at a))
 
     go :
         (r : ℕ) → (rowIn r (h .frame) ≡ rowIn r (h .memory) → ⊥) → (b : Bool) → isMarked (marksOf h) r ≡ b →
         isMarked (marksOf h) r ≡ true
     go r n true e = e
-    go r n false e = absurd (n (row-same r h (since cfg made) v e))
+    go r n false e = absurd (n (row-same r h (since defined cfg made) v e))
 
 -- A publish is not refused.
-pub last-publish : (cfg : PanelConfig) (calls : List Call) → Accepted (freshHost cfg) calls → refusal (run (freshHost cfg) calls) publish ≡ 0
+pub last-publish : (cfg : PanelConfig) (calls : List Call) → Accepted defined (freshHost cfg) calls → refusal (run defined (freshHost cfg) calls) publish ≡ 0
 unfolding refusal
 last-publish cfg calls a =
     let v = end-fits cfg calls a in
-    let h = run (freshHost cfg) calls in
+    let h = run defined (freshHost cfg) calls in
     none-bad (h .panel) (length (h .memory)) (length (h .frame)) (end-good cfg calls a .fine) (v .memory-long) (v .frame-long)

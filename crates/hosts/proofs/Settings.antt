@@ -11,12 +11,12 @@ use Rattle.laws.proofs.Marks.{unmarked}
 use Rattle.laws.proofs.Reach.{switched-good}
 use Rattle.hosts.specs.Calls.{Setting, power, shows, brightness, settled}
 
-record Settles (f : Controller → Controller) : Type 0 where
-  cfgBy : PanelConfig → PanelConfig
-  powerBy : Power → Power
-  only : (k : Controller) → f k ≡ withPower (powerBy (k .power)) (withCfg (cfgBy (k .cfg)) k)
+pub record Settles (f : Controller → Controller) : Type 0 where
+  pub cfgBy : PanelConfig → PanelConfig
+  pub powerBy : Power → Power
+  pub only : (k : Controller) → f k ≡ withPower (powerBy (k .power)) (withCfg (cfgBy (k .cfg)) k)
 
-settles : (x : Setting) → Settles (settled x)
+pub settles : (x : Setting) → Settles (settled x)
 settles (power on) = record { cfgBy = λ c. c; powerBy = poweredTo on; only = λ k. refl }
 settles (shows on) = record { cfgBy = switchSet on; powerBy = λ p. p; only = λ k. refl }
 settles (brightness level scale duty) = record { cfgBy = λ c. c; powerBy = litTo level scale duty; only = λ k. refl }

@@ -18,7 +18,7 @@ use Rattle.laws.proofs.Cuts.{data-cut}
 use Rattle.laws.proofs.Stores.{stores-both}
 use Rattle.laws.proofs.Marks.{unmarked, data-unmarked, release-unmarked, moved-unmarked, rail-unmarked}
 use Rattle.publishing.specs.Publish.{published}
-use Rattle.hosts.specs.Calls.{Host, Call, commands, segment, publish, reset, markAll, sets, looks, refusal, step, run, Accepted}
+use Rattle.hosts.specs.Calls.{Host, Call, commands, segment, publish, reset, markAll, sets, looks, refusal, step, defined, run, Accepted}
 use Rattle.hosts.specs.Hosts.{role, free, InParts, rest, part, between, Makes, done, besides, same, sends}
 use Rattle.hosts.proofs.Settings.{panelSettled, settled-unmarked}
 
@@ -84,7 +84,7 @@ step-does h markAll e = refl
 step-does h (sets x) e = core-same (settled-unmarked x (h .panel)) refl
 step-does h (looks x) e = refl
 
-pub run-does : (h : Host) (calls : List Call) → Accepted h calls → core (run h calls) ≡ foldl does (core h) calls
+pub run-does : (h : Host) (calls : List Call) → Accepted defined h calls → core (run defined h calls) ≡ foldl does (core h) calls
 run-does h [] a = refl
 run-does h (c ∷ calls) a = run-does (step h c) calls (a .1) ∙ ap (λ b. foldl does b calls) (step-does h c (a .0))
 

@@ -108,11 +108,21 @@ step h markAll = onController allMarked h
 step h (sets x) = onController (settled x) h
 step h (looks x) = h
 
+-- What a host is run by: how it begins, what a call leaves of it, and the number of the refusal that a call is given.
+pub record Machine : Type 0 where
+  pub fresh : PanelConfig → Host
+  pub step : Host → Call → Host
+  pub refusal : Host → Call → ℕ
+
+-- That of the definitions.
+abbrev pub defined : Machine
+defined = record { fresh = freshHost; step = step; refusal = refusal }
+
 -- Calls in turn.
-abbrev pub run : Host → List Call → Host
-run h calls = foldl step h calls
+abbrev pub run : Machine → Host → List Call → Host
+run m h calls = foldl (m .step) h calls
 
 -- "No call is refused": each where it comes.
-abbrev pub Accepted : Host → List Call → Type 0
-Accepted h [] = Unit {0}
-Accepted h (c ∷ calls) = (refusal h c ≡ 0) × Accepted (step h c) calls
+abbrev pub Accepted : Machine → Host → List Call → Type 0
+Accepted m h [] = Unit {0}
+Accepted m h (c ∷ calls) = (m .refusal h c ≡ 0) × Accepted m (m .step h c) calls

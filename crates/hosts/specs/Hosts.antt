@@ -12,7 +12,7 @@ use Rattle.marks.specs.declared.Span.the-variants.{Nothing, Rows}
 use Rattle.board.specs.Board.{isBoardRail}
 use Rattle.board.specs.declared.PanelConfig.{PanelConfig}
 use Rattle.st7789.specs.Data.{storesIn}
-use Rattle.hosts.specs.Calls.{Host, Call, commands, segment, publish, reset, markAll, sets, looks, freshHost, refusal, step, run, Accepted}
+use Rattle.hosts.specs.Calls.{Host, Call, commands, segment, publish, reset, markAll, sets, looks, Machine, run, Accepted}
 
 -- How the calls of two hosts go together: made by both alike, or sent by each in parts of its own, or made by either where it likes.
 -- "data times and the moments and number of publishes may also differ"; and so may those of the calls that only look.
@@ -78,13 +78,13 @@ noted h s (sets x) = s
 noted h s (looks x) = s
 
 -- And after calls in turn.
-abbrev pub sinceFrom : Host → Since → List Call → Since
-sinceFrom h s [] = s
-sinceFrom h s (c ∷ calls) = sinceFrom (step h c) (noted h s c) calls
+abbrev pub sinceFrom : Machine → Host → Since → List Call → Since
+sinceFrom m h s [] = s
+sinceFrom m h s (c ∷ calls) = sinceFrom m (m .step h c) (noted h s c) calls
 
 -- A fresh panel and an all-zero frame: nothing was stored, and nothing is to be copied.
-abbrev pub since : PanelConfig → List Call → Since
-since cfg calls = sinceFrom (freshHost cfg) nothingSince calls
+abbrev pub since : Machine → PanelConfig → List Call → Since
+since m cfg calls = sinceFrom m (m .fresh cfg) nothingSince calls
 
 -- "the smallest holding every row": it holds each of them, and its first and its last are among them.
 pub record Smallest (first last : ℕ) (rows : List ℕ) : Type 0 where
@@ -123,27 +123,34 @@ pub record Agree (a b : Host) : Type 0 where
   pub panel : a .panel ≡ b .panel
 
 -- "At every moment": after the calls `made`, whichever are left.
-abbrev pub EveryMoment : PanelConfig → List Call → Type 0
-EveryMoment cfg calls = (made left : List Call) → calls ≡ made ++ left → Moment (run (freshHost cfg) made) (since cfg made)
+abbrev pub EveryMoment : Machine → PanelConfig → List Call → Type 0
+EveryMoment m cfg calls = (made left : List Call) → calls ≡ made ++ left → Moment (run m (m .fresh cfg) made) (since m cfg made)
 
--- What demand 3 promises of two hosts, "and then a last publish at each". That publish is no call of theirs: that it is not refused is
--- promised too, and that it leaves nothing marked.
-pub record Demand3 (cfg : PanelConfig) (us vs : List Call) : Type 0 where
-  pub last-a : refusal (run (freshHost cfg) us) publish ≡ 0
-  pub last-b : refusal (run (freshHost cfg) vs) publish ≡ 0
-  pub empty-a : marksOf (step (run (freshHost cfg) us) publish) ≡ noRows
-  pub empty-b : marksOf (step (run (freshHost cfg) vs) publish) ≡ noRows
-  pub agree : Agree (step (run (freshHost cfg) us) publish) (step (run (freshHost cfg) vs) publish)
-  pub moments-a : EveryMoment cfg us
-  pub moments-b : EveryMoment cfg vs
+-- A host at its end, and then with "a last publish".
+abbrev pub ended : Machine → PanelConfig → List Call → Host
+ended m cfg calls = run m (m .fresh cfg) calls
+
+abbrev pub lastPublished : Machine → PanelConfig → List Call → Host
+lastPublished m cfg calls = m .step (ended m cfg calls) publish
+
+-- What demand 3 promises of two hosts, each run by a machine of its own, "and then a last publish at each". That publish is no call of
+-- theirs: that it is not refused is promised too, and that it leaves nothing marked.
+pub record Demand3 (a b : Machine) (cfg : PanelConfig) (us vs : List Call) : Type 0 where
+  pub last-a : a .refusal (ended a cfg us) publish ≡ 0
+  pub last-b : b .refusal (ended b cfg vs) publish ≡ 0
+  pub empty-a : marksOf (lastPublished a cfg us) ≡ noRows
+  pub empty-b : marksOf (lastPublished b cfg vs) ≡ noRows
+  pub agree : Agree (lastPublished a cfg us) (lastPublished b cfg vs)
+  pub moments-a : EveryMoment a cfg us
+  pub moments-b : EveryMoment b cfg vs
 
 -- "Two hosts each have a fresh panel, equally set": either may cut.
-abbrev pub TwoHosts : Type 0
-TwoHosts =
-    (cfg : PanelConfig) (agreed us vs : List Call) → Makes agreed us → Makes agreed vs → Accepted (freshHost cfg) us → Accepted (freshHost cfg) vs →
-    Demand3 cfg us vs
+abbrev pub TwoHosts : Machine → Machine → Type 0
+TwoHosts a b =
+    (cfg : PanelConfig) (agreed us vs : List Call) → Makes agreed us → Makes agreed vs → Accepted a (a .fresh cfg) us → Accepted b (b .fresh cfg) vs →
+    Demand3 a b cfg us vs
 
 -- "One cuts": the agreed calls are those of the first host, without what is free.
-abbrev pub OneCuts : Type 0
-OneCuts =
-    (cfg : PanelConfig) (us vs : List Call) → Makes (owed us) vs → Accepted (freshHost cfg) us → Accepted (freshHost cfg) vs → Demand3 cfg us vs
+abbrev pub OneCuts : Machine → Machine → Type 0
+OneCuts a b =
+    (cfg : PanelConfig) (us vs : List Call) → Makes (owed us) vs → Accepted a (a .fresh cfg) us → Accepted b (b .fresh cfg) vs → Demand3 a b cfg us vs

@@ -1,3 +1,5 @@
 pub mod Calls
+pub mod Operations
+pub mod Tallies
 pub mod Hosts
 pub mod Instance

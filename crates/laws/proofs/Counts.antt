@@ -1,13 +1,14 @@
--- No counter runs over: a transfer of n bytes adds at most n to each, so after an accepted one none is above 2^63 + 65,536.
-use Prim.Native.Nat.{ℕ, _+_, _^_, _≤_}
+-- No counter runs over: a transfer of n bytes adds at most n to each, so after an accepted one none is above 2^63 + 65,536; and none is
+-- after a refused one, if none was before.
+use Prim.Native.Nat.{ℕ, _+_, _^_, _≤_, max}
 use mathlib.Core.Path.{_≡_, refl, ap}
 use mathlib.Core.Bool.{Bool, true, false, cond}
 use mathlib.Core.List.{List, [], _∷_}
 use native.Mathlib.Omega.{arith}
-use borrow.Author.Tests.{ltb-true, ltb-false}
+use borrow.Author.Tests.{eqb-true, eqb-false, ltb-true, ltb-false}
 use lib.Dec.{ltb, eqb}
 use lib.ListN.{length, set, getD}
-use lib.Seq.{getD-set-same}
+use lib.Seq.{set-out, getD-set-same, getD-set-other}
 use Rattle.chip.specs.Site.{siteOf}
 use Rattle.pixels.proofs.Laws.{counted-few}
 use Rattle.lists.specs.Fixed.{places}
@@ -20,11 +21,11 @@ use Rattle.st7789.specs.Command.{begunRecord, begun, begunAll, controllerReleas
 use Rattle.st7789.specs.Data.{noRecord, onCurrent, morePixels, moreParams, ran, taken, dataIn}
 use Rattle.st7789.specs.Refusals.{pixelsHeld, countsOf, transferRefusal}
 use Rattle.st7789.specs.Room.{Placed}
-use Rattle.st7789.specs.Entries.{moved}
+use Rattle.st7789.specs.Entries.{moved, transferred}
 use Rattle.st7789.specs.declared.St7789p3.{St7789p3}
 use Rattle.st7789.proofs.Tests.{current-placed}
 use Rattle.st7789.proofs.Accepted.{none-refused}
-use Rattle.laws.specs.Valid.{Good, heldBy, Bounded}
+use Rattle.laws.specs.Valid.{Good, heldBy, heldAt, Bounded}
 use Rattle.laws.proofs.DataKinds.{by-kind}
 use Rattle.laws.proofs.Stays.{logsBy, traceBy, begun-good}
 
@@ -34,6 +35,19 @@ pub record Grown (n : ℕ) (s r : St7789p3) : Type 0 where
   pub pixels : r .controller .counts .«pixels_written» ≤ s .controller .counts .«pixels_written» + n
   pub dropped : r .controller .counts .«dropped_params» ≤ s .controller .counts .«dropped_params» + n
   pub held : heldBy r ≤ heldBy s + n
+  pub each : (i : ℕ) → heldAt i r ≤ max (heldAt i s) (heldBy s + n)
+
+-- A record put into the list: each place holds what it held, or what is put.
+put-each :
+    (l : List TraceRecord) (j : ℕ) (r : TraceRecord) (n : ℕ) → r .«pixel_bytes» ≤ n → (i : ℕ) →
+    getD (set l j r) i noRecord .«pixel_bytes» ≤ max (getD l i noRecord .«pixel_bytes») n
+put-each l j r n h i = go (eqb i j) refl (ltb j (length l)) refl
+  where
+    go : (a : Bool) → eqb i j ≡ a → (b : Bool) → ltb j (length l) ≡ b → getD (set l j r) i noRecord .«pixel_bytes» ≤ max (getD l i noRecord .«pixel_bytes») n
+    go true e true f =
+        rw (eqb-true i j e, getD-set-same l j r noRecord (ltb-true j (length l) f)) (omega (arith, h))
+    go true e false f = rw (set-out l j r (ltb-false j (length l) f)) (omega arith)
+    go false e b f = rw (getD-set-other l j i r noRecord (eqb-false i j e)) (omega arith)
 
 -- A command begins: its record has no pixel bytes yet.
 begun-held : (c t : ℕ) (s : St7789p3) → Good s → heldBy (begun c t s) ≡ 0
@@ -57,15 +71,20 @@ begun-grown c t s g =
       pixels = omega arith;
       dropped = omega arith;
       held = omega (arith, h);
+      each = λ i. begun-each i (ltb (s .controller .logs .traced) places);
     }
   where
+    begun-each : (i : ℕ) (b : Bool) → getD (traceBy c t s b .places) i noRecord .«pixel_bytes» ≤ max (heldAt i s) (heldBy s + 1)
+    begun-each i true = put-each (s .records) (s .controller .logs .traced) (begunRecord c t) (heldBy s + 1) (omega arith) i
+    begun-each i false = omega arith
+
     one-more : (b : Bool) (n : ℕ) → cond b (n + 1) n ≤ n + 1
     one-more true n = omega arith
     one-more false n = omega arith
 
 pub all-grown : (t : ℕ) (bytes : List ℕ) (s : St7789p3) → Good s → Grown (length bytes) s (begunAll t bytes s)
 all-grown t [] s g =
-    record { commands = omega arith; ramwrs = omega arith; pixels = omega arith; dropped = omega arith; held = omega arith }
+    record { commands = omega arith; ramwrs = omega arith; pixels = omega arith; dropped = omega arith; held = omega arith; each = λ i. omega arith }
 all-grown t (c ∷ bytes) s g =
     let one = begun-grown c t s g in
     let rest = all-grown t bytes (begun c t s) (begun-good c t s g) in
@@ -75,6 +94,7 @@ all-grown t (c ∷ bytes) s g =
       pixels = omega (arith, one .pixels, rest .pixels);
       dropped = omega (arith, one .dropped, rest .dropped);
       held = omega (arith, one .held, rest .held);
+      each = λ i. omega (arith, one .each i, rest .each i, one .held);
     }
 
 -- Data: the current record grows by the length in a run, and keeps its pixel bytes otherwise.
@@ -88,6 +108,12 @@ held-after f (At i) l n long h grows =
     in
     omega (arith, e, grows (getD l i noRecord))
 
+each-after :
+    (f : TraceRecord → TraceRecord) (k : Current) (l : List TraceRecord) (n : ℕ) → ((r : TraceRecord) → f r .«pixel_bytes» ≤ r .«pixel_bytes» + n) →
+    (i : ℕ) → getD (onCurrent f k l) i noRecord .«pixel_bytes» ≤ max (getD l i noRecord .«pixel_bytes») (pixelsHeld k l + n)
+each-after f Nothing l n grows i = omega arith
+each-after f (At j) l n grows i = put-each l j (f (getD l j noRecord)) (getD l j noRecord .«pixel_bytes» + n) (grows (getD l j noRecord)) i
+
 data-grown : (bytes : List ℕ) (s : St7789p3) → Good s → Grown (length bytes) s (dataIn bytes s)
 unfolding ran taken
 data-grown bytes s g =
@@ -99,6 +125,7 @@ data-grown bytes s g =
       pixels = omega (arith, counted-few (siteOf (s .controller .chip)) (s .controller .chip .walk) bytes);
       dropped = omega arith;
       held = held (morePixels (length bytes)) (λ r. omega arith);
+      each = each (morePixels (length bytes)) (λ r. omega arith);
     })
     (record {
       commands = omega arith;
@@ -106,6 +133,7 @@ data-grown bytes s g =
       pixels = omega arith;
       dropped = omega arith;
       held = held (λ r. r) (λ r. omega arith);
+      each = each (λ r. r) (λ r. omega arith);
     })
     (λ c.
     record {
@@ -114,6 +142,7 @@ data-grown bytes s g =
       pixels = omega arith;
       dropped = omega arith;
       held = held (moreParams bytes) (λ r. omega arith);
+      each = each (moreParams bytes) (λ r. omega arith);
     })
   where
     -- The current record, whatever the data is for.
@@ -123,11 +152,16 @@ data-grown bytes s g =
     held f grows =
         held-after f (s .controller .logs .current) (s .records) (length bytes) (g .sized .records) (current-placed s (g .fine)) grows
 
+    each :
+        (f : TraceRecord → TraceRecord) → ((r : TraceRecord) → f r .«pixel_bytes» ≤ r .«pixel_bytes» + length bytes) →
+        (i : ℕ) → getD (onCurrent f (s .controller .logs .current) (s .records)) i noRecord .«pixel_bytes» ≤ max (heldAt i s) (heldBy s + length bytes)
+    each f grows = each-after f (s .controller .logs .current) (s .records) (length bytes) grows
+
 -- After a release no record is current.
 released-grown : (n : ℕ) (s r : St7789p3) → Grown n s r → Grown n s (released r)
 unfolding controllerReleased
 released-grown n s r h =
-    record { commands = h .commands; ramwrs = h .ramwrs; pixels = h .pixels; dropped = h .dropped; held = omega arith }
+    record { commands = h .commands; ramwrs = h .ramwrs; pixels = h .pixels; dropped = h .dropped; held = omega arith; each = h .each }
 
 pub moved-grown : (t : ℕ) (dc : Bool) (bytes : List ℕ) (cs : Bool) (s : St7789p3) → Good s → Grown (length bytes) s (moved t dc bytes cs s)
 unfolding moved
@@ -145,9 +179,9 @@ moved-grown t dc bytes cs s g = go dc cs
     go false cs = last cs (begunAll t bytes s) (all-grown t bytes s g)
 
 pub never-over :
-    (t : ℕ) (dc : Bool) (bytes : List ℕ) (cs : Bool) (cells : ℕ) (s : St7789p3) → Good s → transferRefusal s cells (length bytes) ≡ 0 →
+    (t : ℕ) (dc : Bool) (bytes : List ℕ) (cs : Bool) (cells : ℕ) (s : St7789p3) → Good s → Bounded s → transferRefusal s cells (length bytes) ≡ 0 →
     Bounded (moved t dc bytes cs s)
-never-over t dc bytes cs cells s g e =
+never-over t dc bytes cs cells s g w e =
     let r = none-refused s cells (length bytes) e in
     let n : length bytes ≤ 65536 = ltb-false 65536 (length bytes) (r 2) in
     let low : (i : ℕ) → getD (countsOf s) i 0 ≤ 2 ^ 63 = λ i. ltb-false (2 ^ 63) (getD (countsOf s) i 0) (each-fails high (countsOf s) (r 3) i 0 refl) in
@@ -157,5 +191,14 @@ never-over t dc bytes cs cells s g e =
       ramwrs = omega (arith, h .ramwrs, low 1);
       pixels = omega (arith, h .pixels, low 2);
       dropped = omega (arith, h .dropped, low 3);
-      held = omega (arith, h .held, low 4);
+      held = λ i. omega (arith, h .each i, low 4, w .held i);
     }
+
+pub transferred-bounded :
+    (t : ℕ) (dc : Bool) (bytes : List ℕ) (cs : Bool) (cells : ℕ) (s : St7789p3) → Good s → Bounded s → Bounded (transferred t dc bytes cs cells s)
+unfolding transferred
+transferred-bounded t dc bytes cs cells s g w = go (eqb (transferRefusal s cells (length bytes)) 0) refl
+  where
+    go : (b : Bool) → eqb (transferRefusal s cells (length bytes)) 0 ≡ b → Bounded (cond b (moved t dc bytes cs s) s)
+    go true e = never-over t dc bytes cs cells s g w (eqb-true (transferRefusal s cells (length bytes)) 0 e)
+    go false e = w

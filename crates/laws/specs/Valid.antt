@@ -24,10 +24,14 @@ pub record Good (s : St7789p3) : Type 0 where
 abbrev pub heldBy : St7789p3 → ℕ
 heldBy s = pixelsHeld (s .controller .logs .current) (s .records)
 
--- What `never-over` says of the counters: the bounds that 2^63 and 65,536 give.
+-- The pixel bytes of the record at a place.
+abbrev pub heldAt : ℕ → St7789p3 → ℕ
+heldAt i s = getD (s .records) i noRecord .«pixel_bytes»
+
+-- No counter has run over: the bounds that 2^63 and 65,536 give, for every record's pixel bytes too, current or not.
 pub record Bounded (s : St7789p3) : Type 0 where
   pub commands : s .controller .counts .commands ≤ 2 ^ 63 + 65536
   pub ramwrs : s .controller .counts .«ramwr_count» ≤ 2 ^ 63 + 65536
   pub pixels : s .controller .counts .«pixels_written» ≤ 2 ^ 63 + 65536
   pub dropped : s .controller .counts .«dropped_params» ≤ 2 ^ 63 + 65536
-  pub held : heldBy s ≤ 2 ^ 63 + 65536
+  pub held : (i : ℕ) → heldAt i s ≤ 2 ^ 63 + 65536

@@ -20,28 +20,18 @@ use Rattle.st7789.proofs.Tests.{clause}
 use Rattle.laws.specs.Valid.{Good}
 use Rattle.laws.proofs.Marks.{unmarked, moved-marks}
 use Rattle.laws.proofs.Stores.{in-panel}
-use Rattle.laws.proofs.Reach.{transferred-good, fresh-good, marked-good, reset-good}
+use Rattle.laws.proofs.Reach.{fresh-good}
 use Rattle.publishing.specs.Publish.{spanCopied, published, publishedFrame}
 use Rattle.publishing.proofs.Refusing.{none-bad}
 use Rattle.publishing.proofs.Rows.{all-copied}
 use Rattle.hosts.specs.Calls.{Host, Call, commands, segment, publish, reset, markAll, sets, looks, freshHost, refusal, step, defined, run, Accepted}
 use Rattle.hosts.specs.Hosts.{Since, nothingSince, noted, sinceFrom, since, marksOf, rowIn, EveryMoment}
-use Rattle.hosts.proofs.Settings.{settled-good, settled-marks}
-use Rattle.hosts.proofs.Operations.{published-good}
+use Rattle.hosts.proofs.Settings.{settled-marks}
+use Rattle.hosts.proofs.Operations.{step-good}
 use Rattle.hosts.proofs.Spans.{none-marked}
 use Rattle.hosts.proofs.Fits.{Fits, stores-fit, all-fit}
 
--- Every call keeps a state good.
-step-good : (h : Host) (c : Call) → Good (h .panel) → Good (step h c .panel)
-unfolding step
-step-good h (commands t bytes cs) g = transferred-good t false bytes cs (length (h .memory)) (h .panel) g
-step-good h (segment t bytes cs) g = transferred-good t true bytes cs (length (h .memory)) (h .panel) g
-step-good h publish g = published-good (refusal h publish) (h .panel) g
-step-good h (reset domain) g = reset-good (h .panel) g domain (length (h .memory))
-step-good h markAll g = marked-good (h .panel) g
-step-good h (sets x) g = settled-good x (h .panel) g
-step-good h (looks x) g = g
-
+-- Calls keep a state good.
 pub run-good : (h : Host) (calls : List Call) → Good (h .panel) → Good (run defined h calls .panel)
 run-good h [] g = g
 run-good h (c ∷ calls) g = run-good (step h c) calls (step-good h c g)

@@ -1,8 +1,8 @@
 -- Whatever operations are made on a fresh panel, refused ones among them, its state is good at every moment and no counter has run over.
 use Prim.Native.Nat.{ℕ, _+_, _^_, _≤_}
-use mathlib.Core.Path.{_≡_, refl, ap}
+use mathlib.Core.Path.{_≡_, refl, sym, ap, subst, _∙_}
 use mathlib.Core.Bool.{Bool, true, false}
-use mathlib.Core.List.{List, [], _∷_, foldl}
+use mathlib.Core.List.{List, [], _∷_, foldl, foldl-append}
 use native.Mathlib.Omega.{arith}
 use borrow.Author.Tests.{ltb-true, ltb-false}
 use lib.Dec.{ltb}
@@ -24,11 +24,12 @@ use Rattle.laws.proofs.Counts.{transferred-bounded}
 use Rattle.laws.proofs.Marks.{unmarked}
 use Rattle.laws.proofs.Reach.{transferred-good, bare-good, fresh-good, unmarked-good, marked-good, taken-warnings-good, reset-good}
 use Rattle.publishing.specs.Publish.{published, publishRefusal}
-use Rattle.hosts.specs.Operations.{Operation, transferring, publishing, resetting, setting, marking, taking, operated, after}
+use Rattle.hosts.specs.Calls.{Host, Call, commands, segment, publish, reset, markAll, sets, looks, refusal, step, defined, run}
+use Rattle.hosts.specs.Operations.{Operation, transferring, publishing, resetting, setting, marking, taking, operated, after, operationsOf, operationsFrom}
 use Rattle.hosts.proofs.Settings.{settles, settled-good}
 
 -- Every operation keeps a state good.
-pub published-good : (n : ℕ) (s : St7789p3) → Good s → Good (published n s)
+published-good : (n : ℕ) (s : St7789p3) → Good s → Good (published n s)
 unfolding published
 published-good n s g = unless-either n (unmarked s) s Good (unmarked-good s g) g
 
@@ -80,10 +81,38 @@ operated-bounded s (setting x) g w = counted-bounded (ap (λ (k : Controller). k
 operated-bounded s marking g w = counted-bounded refl refl w
 operated-bounded s taking g w = counted-bounded refl refl w
 
--- From a good state, and so from a fresh panel.
-from-good : (s : St7789p3) (operations : List Operation) → Good s → Bounded s → Good (foldl operated s operations) × Bounded (foldl operated s operations)
-from-good s [] g w = (g, w)
-from-good s (o ∷ operations) g w = from-good (operated s o) operations (operated-good s o g) (operated-bounded s o g w)
+-- Operations in turn, and so from a fresh panel.
+pub all-operated-good : (s : St7789p3) (operations : List Operation) → Good s → Good (foldl operated s operations)
+all-operated-good s [] g = g
+all-operated-good s (o ∷ operations) g = all-operated-good (operated s o) operations (operated-good s o g)
+
+all-operated-bounded : (s : St7789p3) (operations : List Operation) → Good s → Bounded s → Bounded (foldl operated s operations)
+all-operated-bounded s [] g w = w
+all-operated-bounded s (o ∷ operations) g w = all-operated-bounded (operated s o) operations (operated-good s o g) (operated-bounded s o g w)
 
 pub always-good : (cfg : PanelConfig) (operations : List Operation) → Good (after cfg operations) × Bounded (after cfg operations)
-always-good cfg operations = from-good (freshPanel cfg) operations (fresh-good cfg) (fresh-bounded cfg)
+always-good cfg operations = (
+  all-operated-good (freshPanel cfg) operations (fresh-good cfg),
+  all-operated-bounded (freshPanel cfg) operations (fresh-good cfg) (fresh-bounded cfg),
+)
+
+-- What a host's calls leave of its panel is what their operations leave.
+step-operates : (h : Host) (c : Call) → step h c .panel ≡ foldl operated (h .panel) (operationsOf h c)
+unfolding step refusal operated
+step-operates h (commands t bytes cs) = refl
+step-operates h (segment t bytes cs) = refl
+step-operates h publish = refl
+step-operates h (reset domain) = refl
+step-operates h markAll = refl
+step-operates h (sets x) = refl
+step-operates h (looks x) = refl
+
+pub run-operates : (h : Host) (calls : List Call) → run defined h calls .panel ≡ foldl operated (h .panel) (operationsFrom defined h calls)
+run-operates h [] = refl
+run-operates h (c ∷ calls) =
+    run-operates (step h c) calls
+    ∙ ap (λ s. foldl operated s (operationsFrom defined (step h c) calls)) (step-operates h c)
+    ∙ sym (foldl-append operated (h .panel) (operationsOf h c) (operationsFrom defined (step h c) calls))
+
+pub step-good : (h : Host) (c : Call) → Good (h .panel) → Good (step h c .panel)
+step-good h c g = subst Good (sym (step-operates h c)) (all-operated-good (h .panel) (operationsOf h c) g)

@@ -37,10 +37,11 @@ use Rattle.laws.proofs.Reach.{fresh-good}
 use Rattle.laws.proofs.Stays.{logsBy, traceBy, lined}
 use Rattle.laws.proofs.Traces.{Lined, lasting}
 use Rattle.publishing.specs.Publish.{publishRefusal, published}
-use Rattle.hosts.specs.Operations.{Operation, transferring, publishing, resetting, setting, marking, taking, operated, after}
+use Rattle.hosts.specs.Calls.{Call, freshHost, defined, run}
+use Rattle.hosts.specs.Operations.{Operation, transferring, publishing, resetting, setting, marking, taking, operated, after, operationsFrom}
 use Rattle.hosts.specs.Tallies.{Tally, nothingSent, timesSent, commandsSent, grownAt, pixelsSent, restOf, paramsSent, segmentSent, tallied, tallyFrom, tally, countsIn}
 use Rattle.hosts.proofs.Settings.{settles}
-use Rattle.hosts.proofs.Operations.{operated-good}
+use Rattle.hosts.proofs.Operations.{operated-good, run-operates}
 
 -- A tally by its parts.
 tally-same :
@@ -213,3 +214,8 @@ from-good s (o ∷ operations) g =
 pub always-tallied : (cfg : PanelConfig) (operations : List Operation) → countsIn (after cfg operations) ≡ tally cfg operations
 always-tallied cfg operations =
     from-good (freshPanel cfg) operations (fresh-good cfg) ∙ ap (λ y. tallyFrom (freshPanel cfg) y operations) (fresh-tallied cfg)
+
+-- And so of a host's calls, refused ones too.
+pub calls-tallied :
+    (cfg : PanelConfig) (calls : List Call) → countsIn (run defined (freshHost cfg) calls .panel) ≡ tally cfg (operationsFrom defined (freshHost cfg) calls)
+calls-tallied cfg calls = ap countsIn (run-operates (freshHost cfg) calls) ∙ always-tallied cfg (operationsFrom defined (freshHost cfg) calls)

@@ -19,7 +19,7 @@ use Rattle.no_room.proofs.Model.{model}
 use Rattle.no_room.proofs.Kept.{as-promised}
 
 -- Two things that look different are different.
-apart : {A : Type 0} (look : A → ℕ) (m n : ℕ) {x y : A} → look x ≡ m → look y ≡ n → eqb m n ≡ false → x ≡ y → ⊥
+pub apart : {A : Type 0} (look : A → ℕ) (m n : ℕ) {x y : A} → look x ≡ m → look y ≡ n → eqb m n ≡ false → x ≡ y → ⊥
 apart look m n p q d e = eqb-false m n d (sym p ∙ ap look e ∙ q)
 
 -- P1's two transfers, "2C" and "data F8 00 07 E0".
@@ -66,10 +66,6 @@ one-counted : begunPanel .state .controller .counts .commands ≡ 1
 unfolding model
 one-counted = refl
 
-all-counted : after begunPanel second .state .controller .counts ≡ record { commands = 1; «ramwr_count» = 1; «pixels_written» = 2; «dropped_params» = 0 }
-unfolding model
-all-counted = refl
-
 module _ (f : Transfer) (keeps : KeepsTransfer f) where
   -- "A model that refuses everything"
   pub refuses-not-all : ((p : Panel) (c : Call) → number (f p c .answer .status) ≡ 0 → ⊥) → ⊥
@@ -100,12 +96,6 @@ module _ (f : Transfer) (keeps : KeepsTransfer f) where
   not-idle idles =
       apart (λ p. cell 0 (p .memory)) 0xF800 0 (ap (λ p. cell 0 (p .memory)) both-left ∙ second-stores)
       (ap (cell 0) (keeps fresh first .1 .1) ∙ first-stores-nothing) refl (idles first second)
-
-  -- "Invented counts": after P1 the counts are these and no others. `commands-counted` has the commands of every accepted call.
-  pub not-invented :
-      leftBy f (leftBy f fresh first) second .state .controller .counts ≡
-      record { commands = 1; «ramwr_count» = 1; «pixels_written» = 2; «dropped_params» = 0 }
-  not-invented = ap (λ p. p .state .controller .counts) both-left ∙ all-counted
 
 -- What is published: P1's pixels, then one pixel more.
 abbrev blank : List ℕ

@@ -1,5 +1,4 @@
 -- What keeps the promise of a transfer leaves what the definitions say; and something keeps it, and that of publishing.
-use Prim.Native.Nat.{ℕ}
 use mathlib.Core.Path.{_≡_, refl}
 use mathlib.Core.Bool.{Bool, true, false, cond, not}
 use mathlib.Core.List.{List, [], _∷_}
@@ -11,10 +10,10 @@ use Rattle.status.specs.Tests.{Test, first, transferRow, publishRow}
 use Rattle.lists.specs.Entries.{some}
 use Rattle.lists.proofs.Bools.{neither}
 use Rattle.st7789.specs.Refusals.{badState, countsOf, transferRefusal}
-use Rattle.publishing.specs.Publish.{publishRefusal, published, publishedSpan, publishedFlags, publishedFrame}
+use Rattle.publishing.specs.Publish.{publishRefusal}
 use Rattle.no_room.specs.Panels.{after}
-use Rattle.no_room.specs.Kept.{Transfer, KeepsTransfer, leftBy, Publish, KeepsPublish}
-use Rattle.no_room.proofs.Only.{statusOf}
+use Rattle.no_room.specs.Kept.{Transfer, KeepsTransfer, leftBy, KeepsPublish}
+use Rattle.no_room.specs.Promised.{statusOf, promisedTransfer, promisedPublish}
 
 pub as-promised : (f : Transfer) → KeepsTransfer f → leftBy f ≡ after
 as-promised f keeps i p c = record { state = keeps p c .1 .0 i; memory = keeps p c .1 .1 i }
@@ -24,7 +23,7 @@ abbrev nameless : Test → Bool
 nameless x = not (eqb (number (statusOf (x .number))) (x .number))
 
 -- Something keeps each: what the definitions compute, with the status read off its number. A row of tests gives one of 01's numbers.
-numbered : (l : List Test) → some nameless l ≡ false → number (statusOf (first l)) ≡ first l
+pub numbered : (l : List Test) → some nameless l ≡ false → number (statusOf (first l)) ≡ first l
 numbered [] e = refl
 numbered (x ∷ l) e =
     let t = neither (nameless x) (some nameless l) e in
@@ -36,35 +35,10 @@ numbered (x ∷ l) e =
     by-test true e rest = e
     by-test false e rest = rest
 
-pub promisedTransfer : Transfer
-promisedTransfer p c =
-    record {
-      answer =
-          record {
-            panel = after p c .state;
-            status = statusOf (transferRefusal (p .state) (length (p .memory)) (length (c .bytes)));
-          };
-      memory = after p c .memory;
-    }
-
 pub transfer-kept : KeepsTransfer promisedTransfer
 unfolding promisedTransfer transferRefusal
 transfer-kept p c =
     (numbered (transferRow (badState (p .state)) (length (p .memory)) (length (c .bytes)) (countsOf (p .state))) refl, (refl, refl))
-
-pub promisedPublish : Publish
-promisedPublish p frame =
-    let n : ℕ = publishRefusal (p .state) (length (p .memory)) (length frame) in
-    record {
-      answer =
-          record {
-            panel = published n (p .state);
-            span = publishedSpan n (p .state);
-            flags = publishedFlags n (p .state);
-            status = statusOf n;
-          };
-      frame = publishedFrame n (p .state) (p .memory) frame;
-    }
 
 pub publish-kept : KeepsPublish promisedPublish
 unfolding promisedPublish publishRefusal

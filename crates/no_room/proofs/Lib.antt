@@ -3,8 +3,9 @@ pub mod Parts
 pub mod Panel
 pub mod Texts
 pub mod Kept
-pub mod Counted
+pub mod Functions
 pub mod Model
 pub mod Examples
 pub mod Impostors
+pub mod Breaking
 pub mod SameSeen

@@ -1,18 +1,13 @@
 -- The two steps by which a promise leaves no room.
 use Prim.Native.Nat.{ℕ}
 use mathlib.Core.Path.{_≡_, refl, sym, ap, _∙_}
-use mathlib.Core.List.{[], _∷_}
-use lib.ListN.{getD}
 use Rattle.status.specs.Numbers.{number}
 use Rattle.status.specs.declared.Status.{Status}
 use Rattle.status.specs.declared.Status.the-variants.{Ok, BadState, BadMemory, BadFrame, TooLong, CountHigh, LogLong, BadLog}
+use Rattle.no_room.specs.Promised.{statusOf}
 
 pub same : {A : Type 0} {x y v : A} → x ≡ v → y ≡ v → x ≡ y
 same p q = p ∙ sym q
-
--- "No. | Name", read the other way.
-abbrev pub statusOf : ℕ → Status
-statusOf n = getD (Ok ∷ BadState ∷ BadMemory ∷ BadFrame ∷ TooLong ∷ CountHigh ∷ LogLong ∷ BadLog ∷ []) n Ok
 
 read-back : (s : Status) → statusOf (number s) ≡ s
 read-back Ok = refl

@@ -12,7 +12,7 @@ use Rattle.publishing.proofs.publish as publish
 use Rattle.no_room.specs.Panels.{Call, Panel}
 
 -- Lent numbers, wherever they stand.
-abbrev lent : List ℕ → RefT (List ℕ)
+abbrev pub lent : List ℕ → RefT (List ℕ)
 lent numbers = record { ptr = (0, 0); name = 0; now = numbers }
 
 -- What a transfer leaves: the answer, and memory.

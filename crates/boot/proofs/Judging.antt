@@ -9,7 +9,8 @@ use lib.ListN.{length, take, drop, getD, drop-of-length-le}
 use lib.Seq.{drop-cons, drop-drop, take-suc}
 use Rattle.lists.specs.declared.TraceRecord.{TraceRecord}
 use Rattle.sequence.specs.Sequence.{bootSequence, pastStep}
-use Rattle.boot.specs.Boot.{fits, emptyRecord, answered, comparedFrom, compared, judged}
+use Rattle.lists.specs.Entries.{emptyRecord}
+use Rattle.boot.specs.Boot.{fits, answered, comparedFrom, compared, judged}
 use Rattle.sequence.specs.declared.BootStep.{BootStep}
 use Rattle.boot.specs.declared.BootCheck.the-variants.{Match, Differs, Missing}
 

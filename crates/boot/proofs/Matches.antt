@@ -8,7 +8,8 @@ use lib.ListN.{length}
 use Rattle.lists.specs.Params.{differ}
 use Rattle.lists.specs.declared.TraceRecord.{TraceRecord}
 use Rattle.sequence.specs.Sequence.{bootSequence}
-use Rattle.boot.specs.Boot.{fits, emptyRecord, answered, comparedFrom, compared, stepOf, FitsAt}
+use Rattle.lists.specs.Entries.{emptyRecord}
+use Rattle.boot.specs.Boot.{fits, answered, comparedFrom, compared, stepOf, FitsAt}
 use Rattle.sequence.specs.declared.BootStep.{BootStep}
 use Rattle.boot.specs.declared.BootCheck.{BootCheck}
 use Rattle.boot.specs.declared.BootCheck.the-variants.{Match, Differs, Missing}

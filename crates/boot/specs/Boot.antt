@@ -5,7 +5,8 @@ use mathlib.Core.Bool.{Bool, true, cond, not, _&&_}
 use mathlib.Core.List.{List, [], _∷_}
 use lib.ListN.{length, getD, drop}
 use lib.Dec.{eqb}
-use Rattle.lists.specs.Params.{noParams, differ}
+use Rattle.lists.specs.Params.{differ}
+use Rattle.lists.specs.Entries.{emptyRecord}
 use Rattle.lists.specs.declared.TraceRecord.{TraceRecord}
 use Rattle.sequence.specs.declared.BootStep.{BootStep}
 use Rattle.sequence.specs.Sequence.{bootSequence, pastStep}
@@ -17,10 +18,6 @@ use Rattle.boot.specs.declared.Compared.{Compared}
 -- 14: so "A record counting over 14 parameters differs from every step."
 unfoldable pub fits : BootStep → TraceRecord → Bool
 fits s r = eqb (s .cmd) (r .cmd) && not (differ (s .params) (r .params))
-
--- What stands for the record found where none is.
-abbrev pub emptyRecord : TraceRecord
-emptyRecord = record { at = 0; «pixel_bytes» = 0; params = noParams; cmd = 0 }
 
 -- An answer of its two parts.
 abbrev pub answered : BootCheck → TraceRecord → Compared

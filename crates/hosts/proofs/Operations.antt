@@ -1,18 +1,16 @@
 -- Whatever operations are made on a fresh panel, refused ones among them, its state is good at every moment and no counter has run over.
-use Prim.Native.Nat.{ℕ, _+_, _^_, _≤_}
+use Prim.Native.Nat.{ℕ, zero, suc}
 use mathlib.Core.Path.{_≡_, refl, sym, ap, subst, _∙_}
 use mathlib.Core.Bool.{Bool, true, false}
 use mathlib.Core.List.{List, [], _∷_, foldl, foldl-append}
 use native.Mathlib.Omega.{arith}
-use borrow.Author.Tests.{ltb-true, ltb-false}
-use lib.Dec.{ltb}
-use lib.ListN.{length, getD, replicate, length-replicate, getD-replicate, List·getD-eq-default}
+use lib.ListN.{getD, replicate}
+use Rattle.lists.specs.Entries.{emptyRecord}
 use Rattle.lists.specs.Fixed.{places}
 use Rattle.status.specs.Tests.{memoryRefusal}
 use Rattle.status.proofs.Unless.{unless-either}
 use Rattle.board.specs.Board.{isBoardRail}
 use Rattle.board.specs.declared.PanelConfig.{PanelConfig}
-use Rattle.st7789.specs.Command.{begunRecord}
 use Rattle.st7789.specs.Data.{noRecord}
 use Rattle.st7789.specs.Entries.{freshController, emptyLists, freshPanel, railReset, resetState}
 use Rattle.st7789.specs.declared.PanelMemory.the-variants.{Lent, Without}
@@ -54,16 +52,22 @@ counted-bounded e f w =
       held = λ i. rw f (w .held i);
     }
 
+-- No empty record holds a pixel byte, and nothing does past their end.
+none-held : (n i : ℕ) → getD (replicate n emptyRecord) i noRecord .«pixel_bytes» ≡ 0
+none-held zero i = refl
+none-held (suc n) zero = refl
+none-held (suc n) (suc i) = none-held n i
+
 fresh-bounded : (cfg : PanelConfig) → Bounded (freshPanel cfg)
 unfolding freshController emptyLists
 fresh-bounded cfg =
-    record { commands = omega arith; ramwrs = omega arith; pixels = omega arith; dropped = omega arith; held = λ i. go i (ltb i places) refl }
-  where
-    go : (i : ℕ) (b : Bool) → ltb i places ≡ b → getD (replicate places (begunRecord 0 0)) i noRecord .«pixel_bytes» ≤ 2 ^ 63 + 65536
-    go i true e = rw (getD-replicate places i (begunRecord 0 0) noRecord (ltb-true i places e)) (omega arith)
-    go i false e =
-        let out : length (replicate places (begunRecord 0 0)) ≤ i = rw (length-replicate places (begunRecord 0 0)) (ltb-false i places e) in
-        rw (List·getD-eq-default (replicate places (begunRecord 0 0)) noRecord out) (omega arith)
+    record {
+      commands = omega arith;
+      ramwrs = omega arith;
+      pixels = omega arith;
+      dropped = omega arith;
+      held = λ i. omega (arith, none-held places i);
+    }
 
 operated-bounded : (s : St7789p3) (o : Operation) → Good s → Bounded s → Bounded (operated s o)
 unfolding operated published resetState emptyLists freshController

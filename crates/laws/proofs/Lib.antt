@@ -16,3 +16,4 @@ pub mod SameRefused
 pub mod Stepped
 pub mod SameMoved
 pub mod SameKept
+pub mod Sentences

@@ -5,9 +5,8 @@ use mathlib.Core.Bool.{Bool, true, false}
 use mathlib.Core.List.{List}
 use lib.ListN.{length, getD-replicate}
 use Rattle.lists.specs.Fixed.{places}
-use Rattle.lists.specs.declared.TraceRecord.{TraceRecord}
 use Rattle.lists.specs.declared.Warning.{Warning}
-use Rattle.lists.specs.Params.{noParams}
+use Rattle.lists.specs.Entries.{emptyRecord}
 use Rattle.chip.specs.Begin.{freshChip}
 use Rattle.status.specs.Tests.{memoryRefusal}
 use Rattle.status.proofs.Unless.{unless-either}
@@ -40,18 +39,15 @@ unfolding bareTransferred
 bare-good t dc bytes cs s g = unless-either (bareRefusal s (length bytes)) (moved t dc bytes cs s) s Good (moved-good t dc bytes cs s g) g
 
 -- A fresh panel.
-zero-record : TraceRecord
-zero-record = record { at = 0; «pixel_bytes» = 0; params = noParams; cmd = 0 }
-
 pub fresh-good : (cfg : PanelConfig) → Good (freshPanel cfg)
-unfolding freshController emptyLists freshChip badState zero-record noRows marksBad
+unfolding freshController emptyLists freshChip badState noRows marksBad
 fresh-good cfg =
     record {
       sized =
           record {
             records = refl;
             bytes = refl;
-            each = λ i h. ap (λ r. length (r .params .bytes)) (getD-replicate places i zero-record noRecord h);
+            each = λ i h. ap (λ r. length (r .params .bytes)) (getD-replicate places i emptyRecord noRecord h);
             warnings = refl;
           };
       fine = refl;

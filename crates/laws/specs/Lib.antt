@@ -1,3 +1,4 @@
 pub mod Valid
 pub mod Same
 pub mod Cases
+pub mod Swreset

@@ -1,5 +1,5 @@
 pub mod Only
-pub mod Parts
+pub mod Below
 pub mod Panel
 pub mod Texts
 pub mod Kept

@@ -37,7 +37,7 @@ countsBegun c n =
       «dropped_params» = n .«dropped_params»;
     }
 
--- The trace record of c, as it is at first. That of command 0 at time 0 is the empty one.
+-- The trace record of c, as it is at first.
 abbrev pub begunRecord : ℕ → ℕ → TraceRecord
 begunRecord c t = record { at = t; «pixel_bytes» = 0; params = noParams; cmd = c }
 

@@ -23,7 +23,7 @@ use Rattle.st7789.specs.declared.Counts.{Counts}
 use Rattle.st7789.specs.declared.Controller.{Controller}
 use Rattle.st7789.specs.declared.St7789p3.{St7789p3}
 
--- What stands past the end of the trace's places.
+-- What the language reads past the end of the trace's places.
 abbrev pub noRecord : TraceRecord
 noRecord = record { at = 0; «pixel_bytes» = 0; params = record { bytes = []; count = 0 }; cmd = 0 }
 

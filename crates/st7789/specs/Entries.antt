@@ -6,6 +6,7 @@ use lib.ListN.{length, replicate}
 use Rattle.marks.specs.Rows.{noRows, allRows}
 use Rattle.pixels.specs.Run.{written, zeroed}
 use Rattle.lists.specs.Fixed.{places}
+use Rattle.lists.specs.Entries.{emptyRecord}
 use Rattle.lists.specs.Params.{noParams}
 use Rattle.lists.specs.declared.Current.{Current}
 use Rattle.board.specs.Board.{switchSet, unpowered, poweredTo, litTo, isBoardRail}
@@ -15,7 +16,7 @@ use Rattle.chip.specs.Begin.{freshChip}
 use Rattle.status.specs.Numbers.{unlessRefused}
 use Rattle.status.specs.Tests.{memoryRefusal}
 use Rattle.st7789.specs.Parts.{withController, withCfg, withPower, withMarks, withLogs}
-use Rattle.st7789.specs.Command.{begunRecord, begunAll, released}
+use Rattle.st7789.specs.Command.{begunAll, released}
 use Rattle.st7789.specs.Data.{dataIn, storesIn}
 use Rattle.st7789.specs.Refusals.{transferRefusal, bareRefusal}
 use Rattle.st7789.specs.declared.PanelMemory.{PanelMemory}
@@ -42,7 +43,7 @@ emptyLists k =
     record {
       controller = k;
       stored = replicate 12 (record { present = false; params = noParams });
-      records = replicate places (begunRecord 0 0);
+      records = replicate places emptyRecord;
       warnings = replicate places (record { at = 0; rule = 0; cmd = 0 });
     }
 

@@ -46,7 +46,8 @@ use Rattle.lists.specs.declared.TraceRecord.{TraceRecord}
 use Rattle.lists.proofs.TraceRecord as R
 use Rattle.lists.proofs.TraceRecord.Laws as R′
 use Rattle.boot.specs.declared.Compared.{Compared}
-use Rattle.boot.specs.Boot.{emptyRecord, compared, judged}
+use Rattle.lists.specs.Entries.{emptyRecord}
+use Rattle.boot.specs.Boot.{compared, judged}
 use Rattle.boot.proofs.Calls.{calls-known}
 use Rattle.boot.proofs.Fronts.{looked}
 use Rattle.boot.proofs.Judging.{judged-at}

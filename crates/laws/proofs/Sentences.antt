@@ -1,0 +1,54 @@
+-- Sentences of 01 that say what does not happen, each as a law.
+use Prim.Native.Nat.{ℕ}
+use mathlib.Core.Path.{_≡_, refl}
+use mathlib.Core.Bool.{Bool, true, false}
+use mathlib.Core.List.{List, [], _∷_}
+use lib.Dec.{eqb}
+use Rattle.lists.specs.Entries.{some}
+use Rattle.lists.proofs.Bools.{neither}
+use Rattle.timing.specs.Lint.{timesAfter}
+use Rattle.chip.specs.Begin.{effects}
+use Rattle.chip.specs.declared.Chip.{Chip}
+use Rattle.st7789.specs.Command.{begun}
+use Rattle.st7789.specs.Entries.{moved, transferred, bareTransferred}
+use Rattle.st7789.specs.declared.St7789p3.{St7789p3}
+use Rattle.laws.specs.Swreset.{ResetKeeps}
+
+-- "Data never looks at time."
+pub data-timeless :
+    (t t′ : ℕ) (bytes : List ℕ) (cs : Bool) (cells : ℕ) (s : St7789p3) →
+    (transferred t true bytes cs cells s ≡ transferred t′ true bytes cs cells s)
+    × (bareTransferred t true bytes cs s ≡ bareTransferred t′ true bytes cs s)
+unfolding transferred bareTransferred moved
+data-timeless t t′ bytes cs cells s = (refl, refl)
+
+-- "Then effects: 01 .., 10 .., 11 .., 20 and 21 .., 28 and 29 .. Other bytes have no effect here."
+pub others-idle :
+    (c t : ℕ) (s : Chip) → some (eqb c) (0x01 ∷ 0x10 ∷ 0x11 ∷ 0x20 ∷ 0x21 ∷ 0x28 ∷ 0x29 ∷ []) ≡ false → effects c t s ≡ s
+unfolding timesAfter
+others-idle c t s e =
+    let a = neither (eqb c 0x01) _ e in
+    let b = neither (eqb c 0x10) _ (a .1) in
+    let d = neither (eqb c 0x11) _ (b .1) in
+    let f = neither (eqb c 0x20) _ (d .1) in
+    let g = neither (eqb c 0x21) _ (f .1) in
+    let h = neither (eqb c 0x28) _ (g .1) in
+    let k = neither (eqb c 0x29) _ (h .1) in
+    rw (a .0, b .0, d .0, f .0, g .0, h .0, k .0)
+
+pub swreset-keeps : (t : ℕ) (s : St7789p3) → ResetKeeps s (begun 0x01 t s)
+unfolding begun timesAfter
+swreset-keeps t s =
+    record {
+      madctl = refl;
+      colmod = refl;
+      ramctrl0 = refl;
+      ramctrl1 = refl;
+      stored = refl;
+      commands = refl;
+      ramwrs = refl;
+      pixels = refl;
+      dropped = refl;
+      woken = refl;
+      nowhere = λ bytes. refl;
+    }

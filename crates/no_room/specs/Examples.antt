@@ -153,8 +153,8 @@ rows =
     }
     -- P5: E0 with 15 bytes: 14 stored, 1 dropped
     ∷ record {
-      calls = command 0xE0 ∷ segment (replicate 15 0x07) ∷ [];
-      passes = λ p. stored 10 (replicate 14 0x07) p && dropped 1 p;
+      calls = command 0xE0 ∷ segment (1 ∷ 2 ∷ 3 ∷ 4 ∷ 5 ∷ 6 ∷ 7 ∷ 8 ∷ 9 ∷ 10 ∷ 11 ∷ 12 ∷ 13 ∷ 14 ∷ 15 ∷ []) ∷ [];
+      passes = λ p. stored 10 (1 ∷ 2 ∷ 3 ∷ 4 ∷ 5 ∷ 6 ∷ 7 ∷ 8 ∷ 9 ∷ 10 ∷ 11 ∷ 12 ∷ 13 ∷ 14 ∷ []) p && dropped 1 p;
     }
     -- P6: B2 with an empty segment: an empty list is stored; with no segment, none
     ∷ record { calls = command 0xB2 ∷ segment [] ∷ []; passes = stored 0 [] }

@@ -1,4 +1,4 @@
--- What keeps the promise of a transfer leaves what the definitions say; and something keeps it, and that of publishing.
+-- What keeps the promise of a transfer or of dimming leaves or answers what the definitions say; and something keeps each promise.
 use mathlib.Core.Path.{_≡_, refl}
 use mathlib.Core.Bool.{Bool, true, false, cond, not}
 use mathlib.Core.List.{List, [], _∷_}
@@ -10,13 +10,17 @@ use Rattle.status.specs.Tests.{Test, first, transferRow, publishRow}
 use Rattle.lists.specs.Entries.{some}
 use Rattle.lists.proofs.Bools.{neither}
 use Rattle.st7789.specs.Refusals.{badState, countsOf, transferRefusal}
+use Rattle.light.specs.Light.{dimmed}
 use Rattle.publishing.specs.Publish.{publishRefusal}
 use Rattle.no_room.specs.Panels.{after}
-use Rattle.no_room.specs.Kept.{Transfer, KeepsTransfer, leftBy, KeepsPublish}
+use Rattle.no_room.specs.Kept.{Transfer, KeepsTransfer, leftBy, KeepsPublish, Dim, KeepsDim}
 use Rattle.no_room.specs.Promised.{statusOf, promisedTransfer, promisedPublish}
 
 pub as-promised : (f : Transfer) → KeepsTransfer f → leftBy f ≡ after
 as-promised f keeps i p c = record { state = keeps p c .1 .0 i; memory = keeps p c .1 .1 i }
+
+pub dim-as-promised : (f : Dim) → KeepsDim f → f ≡ dimmed
+dim-as-promised f keeps i pixel level scale = keeps pixel level scale i
 
 -- Whether a test's number is none of 01's.
 abbrev nameless : Test → Bool
@@ -44,3 +48,6 @@ pub publish-kept : KeepsPublish promisedPublish
 unfolding promisedPublish publishRefusal
 publish-kept p frame =
     (numbered (publishRow (badState (p .state)) (length (p .memory)) (length frame)) refl, (refl, (refl, (refl, refl))))
+
+pub dim-kept : KeepsDim dimmed
+dim-kept pixel level scale = refl

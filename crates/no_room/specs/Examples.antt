@@ -1,4 +1,5 @@
--- Examples: 01's worked examples as rows of one table: the transfers made on a fresh panel, and a test of what they leave.
+-- Examples: 01's worked examples as rows of one table: the transfers made on a fresh panel, and a test of what they leave; of dimming, a
+-- test of what it answers.
 use Prim.Native.Nat.{ℕ, _+_, _*_}
 use mathlib.Core.Bool.{Bool, true, false, not, _&&_}
 use mathlib.Core.List.{List, [], _∷_, _++_, foldl, map}
@@ -18,8 +19,8 @@ use Rattle.sequence.specs.Sequence.{bootSequence}
 use Rattle.boot.specs.Boot.{compared, stepOf}
 use Rattle.sequence.specs.declared.BootStep.{BootStep}
 use Rattle.st7789.specs.Parts.{traceOf}
-use Rattle.light.specs.Light.{dimmed}
 use Rattle.no_room.specs.Panels.{Call, Panel, fresh}
+use Rattle.no_room.specs.Kept.{Dim}
 
 -- A row of the table.
 pub record Row : Type 0 where
@@ -124,9 +125,9 @@ abbrev pub sentFrom : ℕ → List BootStep → List Call
 sentFrom at [] = []
 sentFrom at (s ∷ steps) = commandsAt (ms at) (s .cmd ∷ []) ∷ (dataOf (listed (s .params)) ++ sentFrom (at + s .«delay_ms_after») steps)
 
--- The table.
-unfoldable pub rows : List Row
-rows =
+-- The table, for a way to dim.
+unfoldable pub rows : Dim → List Row
+rows dim =
     -- P1: 2C, data F8 00 07 E0: indexes 0 and 1 hold F800, 07E0; pointer (2,0)
     record {
       calls = command 0x2C ∷ segment (0xF8 ∷ 0x00 ∷ 0x07 ∷ 0xE0 ∷ []) ∷ [];
@@ -184,8 +185,8 @@ rows =
     -- P10: after that 11, 10 at 203 ms: rules 1 and 2
     ∷ record { calls = commandsAt (ms 200) (0x11 ∷ []) ∷ commandsAt (ms 203) (0x10 ∷ []) ∷ []; passes = warns (1 ∷ 2 ∷ []) }
     -- P11: FFFF dimmed 1/2: 7BEF; 2/1: FFFE
-    ∷ record { calls = []; passes = λ p. eqb (dimmed 0xFFFF 1 2) 0x7BEF }
-    ∷ record { calls = []; passes = λ p. eqb (dimmed 0xFFFF 2 1) 0xFFFE }
+    ∷ record { calls = []; passes = λ p. eqb (dim 0xFFFF 1 2) 0x7BEF }
+    ∷ record { calls = []; passes = λ p. eqb (dim 0xFFFF 2 1) 0xFFFE }
     -- P12: 2C, F8, 3C, 00: F800 stored; with CS released before 3C: nothing, carry 00
     ∷ record {
       calls = command 0x2C ∷ segment (0xF8 ∷ []) ∷ command 0x3C ∷ segment (0x00 ∷ []) ∷ [];

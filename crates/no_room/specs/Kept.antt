@@ -1,4 +1,5 @@
--- Rules: 01, "Four impostors are tried.": anything of the type of a transfer or of publishing, and what it is for it to keep the promise.
+-- Rules: anything of the type of a transfer, of publishing or of dimming, and what it is for it to keep the promise. 01's "Four impostors
+-- are tried." is said of the first two, and its worked examples of a transfer and of dimming.
 use Prim.Native.Nat.{ℕ}
 use mathlib.Core.List.{List, []}
 use denote.Ref.{RefT}
@@ -9,6 +10,7 @@ use Rattle.st7789.specs.declared.PanelMemory.the-variants.{Lent}
 use Rattle.st7789.proofs.St7789p3.transfer as transfer
 use Rattle.publishing.specs.declared.Published.{Published}
 use Rattle.publishing.proofs.publish as publish
+use Rattle.light.proofs.dim as dim
 use Rattle.no_room.specs.Panels.{Call, Panel}
 
 -- Lent numbers, wherever they stand.
@@ -58,3 +60,14 @@ KeepsPublish f =
     (p : Panel) (frame : List ℕ) →
     publish.Reads.Learnt ([], ([], tt)) (publishArgs p frame) (f p frame .answer)
     (atExit publish.ended ([], ([], tt)) (publishArgs p frame) (tt, (tt, (f p frame .frame, tt))))
+
+-- Anything of the type of dimming: a pixel, a level and a scale give a pixel.
+abbrev pub Dim : Type 0
+Dim = ℕ → ℕ → ℕ → ℕ
+
+-- It keeps the promise of `dim`, which is the contract.
+abbrev pub KeepsDim : Dim → Type 0
+KeepsDim f =
+    (pixel level scale : ℕ) →
+    dim.Reads.Learnt tt (pixel, (level, (scale, tt))) (f pixel level scale)
+    (atExit dim.ended tt (pixel, (level, (scale, tt))) (tt, (tt, (tt, tt))))

@@ -1,10 +1,12 @@
 -- Examples: 01's table of refusals, case by case: a fresh panel with a part at or past a limit, whether or not a call reaches it, and the
--- number that a transfer over so many cells and bytes is given.
+-- number that an entry gives. Here are the transfer, with memory and without, and what tests memory alone; publishing and the whole view
+-- have their cases in no_room.
 use Prim.Native.Nat.{ℕ, _+_, _^_}
 use mathlib.Core.Bool.{Bool, true, false, _&&_}
-use mathlib.Core.List.{List, [], _∷_}
+use mathlib.Core.List.{List, [], _∷_, _++_, map}
 use lib.ListN.{set, replicate}
 use lib.Dec.{eqb}
+use Rattle.status.specs.Tests.{memoryRefusal}
 use Rattle.pixels.specs.declared.Carry.the-variants.{Empty}
 use Rattle.marks.specs.Rows.{ofSpan}
 use Rattle.marks.specs.declared.Span.{Span}
@@ -17,21 +19,31 @@ use Rattle.board.specs.Board.{switchedTo}
 use Rattle.chip.specs.declared.InForce.{InForce}
 use Rattle.st7789.specs.Parts.{withController, withChip, withCounts, withMarks, withLogs}
 use Rattle.st7789.specs.Entries.{freshPanel}
-use Rattle.st7789.specs.Refusals.{transferRefusal}
+use Rattle.st7789.specs.Refusals.{transferRefusal, bareRefusal}
 use Rattle.st7789.specs.declared.Controller.{Controller}
 use Rattle.st7789.specs.declared.St7789p3.{St7789p3}
 
--- A case of the table.
+-- A case of the table: the refusal of an entry by its definition, and the number that 01 gives it.
 pub record Case : Type 0 where
-  pub state : St7789p3
-  pub cells : ℕ
-  pub bytes : ℕ
+  pub refusal : ℕ
   pub number : ℕ
 
 -- Whether every case is given its number.
 abbrev pub allGiven : List Case → Bool
 allGiven [] = true
-allGiven (c ∷ cs) = eqb (transferRefusal (c .state) (c .cells) (c .bytes)) (c .number) && allGiven cs
+allGiven (c ∷ cs) = eqb (c .refusal) (c .number) && allGiven cs
+
+-- A state, and the number that it is given where nothing else is wrong.
+pub record Limit : Type 0 where
+  pub state : St7789p3
+  pub number : ℕ
+
+-- A transfer over so many cells and bytes, and the number that it is given.
+pub record Sent : Type 0 where
+  pub state : St7789p3
+  pub cells : ℕ
+  pub bytes : ℕ
+  pub number : ℕ
 
 -- A fresh panel; each state below is one with a part set.
 abbrev pub plain : St7789p3
@@ -109,13 +121,13 @@ counted a b c d = onController (withCounts (record { commands = a; «ramwr_count
 abbrev pub spanned : Span → St7789p3
 spanned d = onController (withMarks (ofSpan d)) plain
 
--- A transfer of no bytes over the right memory.
-abbrev pub given : ℕ → St7789p3 → Case
-given n s = record { state = s; cells = 76800; bytes = 0; number = n }
+-- A limit, number first.
+abbrev pub given : ℕ → St7789p3 → Limit
+given n s = record { state = s; number = n }
 
--- The table.
-unfoldable pub cases : List Case
-cases =
+-- The limits of BAD_STATE.
+unfoldable pub stateLimits : List Limit
+stateLimits =
     given 0 plain
     -- "a window corner or pointer coordinate is above 319"
     ∷ given 0 (cornered 319 319 319 319 319 319)
@@ -153,8 +165,12 @@ cases =
     ∷ given 1 (inForce (list 1 7) (traced 1 (list 1 8) 0 (At 0) plain))
     ∷ given 1 (inForce (list 1 7) (traced 1 (list 2 7) 0 (At 0) plain))
     ∷ given 0 (inForce (list 0 7) (traced 1 (list 0 8) 0 (At 0) plain))
-    -- COUNT_HIGH: "above 2^63"; of the pixel bytes only the current record's
-    ∷ given 0 (counted (2 ^ 63) (2 ^ 63) (2 ^ 63) (2 ^ 63))
+    ∷ []
+
+-- The limits of COUNT_HIGH: "above 2^63"; of the pixel bytes only the current record's.
+unfoldable pub countLimits : List Limit
+countLimits =
+    given 0 (counted (2 ^ 63) (2 ^ 63) (2 ^ 63) (2 ^ 63))
     ∷ given 5 (counted (2 ^ 63 + 1) 0 0 0)
     ∷ given 5 (counted 0 (2 ^ 63 + 1) 0 0)
     ∷ given 5 (counted 0 0 (2 ^ 63 + 1) 0)
@@ -162,8 +178,13 @@ cases =
     ∷ given 0 (traced 1 noParams (2 ^ 63) (At 0) plain)
     ∷ given 5 (traced 1 noParams (2 ^ 63 + 1) (At 0) plain)
     ∷ given 0 (traced 1 noParams (2 ^ 63 + 1) Nothing plain)
+    ∷ []
+
+-- Transfers at and past the other limits.
+unfoldable pub sent : List Sent
+sent =
     -- BAD_MEMORY and TOO_LONG: "Exactly 65,536 bytes .. accepted"
-    ∷ record { state = plain; cells = 76799; bytes = 0; number = 2 }
+    record { state = plain; cells = 76799; bytes = 0; number = 2 }
     ∷ record { state = plain; cells = 76801; bytes = 0; number = 2 }
     ∷ record { state = plain; cells = 76800; bytes = 65536; number = 0 }
     ∷ record { state = plain; cells = 76800; bytes = 65537; number = 4 }
@@ -172,3 +193,32 @@ cases =
     ∷ record { state = counted (2 ^ 63 + 1) 0 0 0; cells = 0; bytes = 65537; number = 2 }
     ∷ record { state = counted (2 ^ 63 + 1) 0 0 0; cells = 76800; bytes = 65537; number = 4 }
     ∷ []
+
+-- A transfer, a transfer without memory, and what tests memory alone: a pixel, a reset, a panel made over lent memory.
+abbrev pub transferCase : Sent → Case
+transferCase t = record { refusal = transferRefusal (t .state) (t .cells) (t .bytes); number = t .number }
+
+abbrev pub bareCase : ℕ → St7789p3 → ℕ → Case
+bareCase n s bytes = record { refusal = bareRefusal s bytes; number = n }
+
+abbrev pub memoryCase : ℕ → ℕ → Case
+memoryCase n cells = record { refusal = memoryRefusal cells; number = n }
+
+-- The table.
+unfoldable pub cases : List Case
+cases =
+    map (λ l. transferCase (record { state = l .state; cells = 76800; bytes = 0; number = l .number })) (stateLimits ++ countLimits)
+    ++ (map transferCase sent
+    ++ (map (λ l. bareCase (l .number) (l .state) 0) (stateLimits ++ countLimits)
+    -- without memory, TOO_LONG, and "Tests run in number order"
+    ++ (bareCase 0 plain 65536
+    ∷ bareCase 4 plain 65537
+    ∷ bareCase 1 (warned 129) 65537
+    ∷ bareCase 1 (traced 129 noParams (2 ^ 63 + 1) (At 0) plain) 0
+    ∷ bareCase 4 (counted (2 ^ 63 + 1) 0 0 0) 65537
+    -- BAD_MEMORY of what tests memory alone
+    ∷ memoryCase 0 76800
+    ∷ memoryCase 2 76799
+    ∷ memoryCase 2 76801
+    ∷ memoryCase 2 0
+    ∷ [])))

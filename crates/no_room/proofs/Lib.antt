@@ -9,3 +9,4 @@ pub mod Examples
 pub mod Impostors
 pub mod Breaking
 pub mod SameSeen
+pub mod Cases

@@ -5,3 +5,4 @@ pub mod Kept
 pub mod Functions
 pub mod Promised
 pub mod Impostors
+pub mod Cases

@@ -34,7 +34,7 @@ in-parts k l =
     ∙ ap (λ m. take 8 (drop 1 l) ++ m)
     (ap (take (2 + k)) (drop-drop 8 1 l) ∙ take-add 2 k (drop 9 l) ∙ ap (λ m. take 2 (drop 9 l) ++ take k m) (drop-drop 2 9 l)))
 
-stored-again : (rest : List ℕ) → Bytes rest → Whole rest → encoded (segmentOf rest) ≡ take (recordLength rest) rest
+pub stored-again : (rest : List ℕ) → Bytes rest → Whole rest → encoded (segmentOf rest) ≡ take (recordLength rest) rest
 unfolding encoded segmentOf
 stored-again rest bytes w =
     let k = bodyLength rest in
@@ -62,7 +62,7 @@ log-stored =
     ∙ take-append-drop (recordLength rest) rest)
 
 -- Every segment of a log of bytes fits the stored form.
-segment-fits : (rest : List ℕ) → Bytes rest → Storable (segmentOf rest)
+pub segment-fits : (rest : List ℕ) → Bytes rest → Storable (segmentOf rest)
 unfolding segmentOf
 segment-fits rest h =
     let time = take 8 (drop 1 rest) in

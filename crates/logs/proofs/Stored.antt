@@ -95,7 +95,7 @@ module _ (s : Segment) (behind : List ℕ) (fits : Storable s) where
   unfolding encoded
   tag-back = tagged (s .dc) (s .release) .known
 
-  stored-good : recordBad (encoded s ++ behind) ≡ false
+  pub stored-good : recordBad (encoded s ++ behind) ≡ false
   stored-good = not-bad (encoded s ++ behind) tag-back (omega (arith, length-stored, length-append (encoded s) behind))
 
 segment-bytes : (s : Segment) → Storable s → Bytes (encoded s)

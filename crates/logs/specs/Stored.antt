@@ -2,9 +2,9 @@
 use Prim.Native.Nat.{ℕ, _^_, _<_}
 use mathlib.Core.Path.{_≡_}
 use mathlib.Core.Bool.{true}
-use mathlib.Core.List.{List, [], _∷_}
+use mathlib.Core.List.{List, [], _∷_, _++_}
 use lib.ListN.{length, drop, getD}
-use Rattle.logs.specs.Log.{Segment, recordBad}
+use Rattle.logs.specs.Log.{Segment, encoded, logOf, recordBad}
 
 -- Each number of a list is a byte.
 abbrev pub Bytes : List ℕ → Type 0
@@ -21,7 +21,13 @@ abbrev pub Each : {A : Type 0} → (A → Type 0) → List A → Type 0
 Each P [] = Unit
 Each P (x ∷ xs) = P x × Each P xs
 
--- What `offset-bad` says: the offset is that of a byte of the log, and a bad record begins there.
+-- "the offset of the bad record's first byte", of the first bad one: up to the offset the log is stored transfers, and the bytes from it on
+-- begin with a bad record, and with no stored transfer.
 pub record BadAt (log : List ℕ) (at : ℕ) : Type 0 where
+  pub before : List Segment
+  pub storable : Each Storable before
+  pub splits : log ≡ logOf before ++ drop at log
+  pub offset : length (logOf before) ≡ at
   pub inside : at < length log
   pub bad : recordBad (drop at log) ≡ true
+  pub none : (s : Segment) (behind : List ℕ) → Storable s → encoded s ++ behind ≡ drop at log → ⊥

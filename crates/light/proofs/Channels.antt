@@ -1,17 +1,14 @@
--- Products that fit, a channel scaled, and a table of its values.
+-- Products that fit, and a channel scaled.
 use Prim.Native.Nat.{ℕ, _-_, _*_, _/_, _%_, _^_, _≤_, _<_, min}
 use mathlib.Core.Path.{_≡_, refl, sym, ap, _∙_}
 use mathlib.Core.Bool.{Bool, true, false, cond}
-use mathlib.Core.List.{List}
 use native.Mathlib.Nat.{mul-le-mul, mul-zero, zero-mul, div-le-self}
 use native.Mathlib.Omega.{arith}
 use borrow.Author.Tests.{ne-eqb, eqb-true}
 use lib.Dec.{eqb}
-use lib.ListN.{getD}
 use mir.Val.{Fits}
 use mir.Syntax.{w64}
 use Rattle.light.specs.Light.{scaled, joinedByOr, dimmed}
-use Rattle.light.specs.Looks.{allScaled}
 
 pub product-fits : (a b m n : ℕ) → a ≤ m → b ≤ n → m * n < 2 ^ 64 → Fits w64 (a * b)
 product-fits a b m n h k l = let p : a * b ≤ m * n = mul-le-mul h k in record { fits = omega arith }
@@ -55,13 +52,6 @@ dimmed-scaled v level scale =
   where
     dark : (channel : ℕ) → eqb level 0 ≡ true → scaled channel level scale ≡ 0
     dark channel e = scaled-none channel level scale (ap (λ l. channel * l) (eqb-true level 0 e) ∙ mul-zero channel)
-
--- A pixel put together from the table.
-pub dimmed-by :
-    (values : List ℕ) {v r : ℕ} → v < 65536 → r ≡ joinedByOr (getD values (v / 2048) 0) (getD values (v / 32 % 64) 0) (getD values (v % 32) 0) →
-    (level scale : ℕ) → allScaled level scale values → r ≡ dimmed v level scale
-dimmed-by values {v} h e level scale all =
-    e ∙ rw (all (v / 2048) (omega arith), all (v / 32 % 64) (omega arith), all (v % 32) (omega arith)) (dimmed-scaled v level scale)
 
 -- Black stays black.
 pub dimmed-black : (level scale : ℕ) → dimmed 0 level scale ≡ 0

@@ -1,3 +1,4 @@
 pub mod Channels
+pub mod Entries
 pub mod Looking
 pub mod Examples

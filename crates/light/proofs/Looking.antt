@@ -1,8 +1,8 @@
 -- A view as a look, and a part of memory seen.
 use Prim.Native.Nat.{ℕ, _-_}
 use mathlib.Core.Path.{_≡_, refl, sym, ap, _∙_}
-use mathlib.Core.Bool.{Bool, true, false, cond}
-use mathlib.Core.List.{List, map}
+use mathlib.Core.Bool.{Bool, true, false, cond, _&&_, true≢false}
+use mathlib.Core.List.{List, map, map-id}
 use borrow.Author.Tests.{eq-eqb, ne-eqb}
 use lib.ListN.{length}
 use Rattle.light.specs.Light.{dimmed, glassOf, viewed, partSeen}
@@ -21,6 +21,15 @@ module _ (k : Look) (raw : ℕ) {g : ℕ} (eg : g ≡ glassOf (k .light) raw) wh
 
   pub look-plain : k .dims ≡ false → g ≡ looked k raw
   look-plain e = rw e eg
+
+-- A glass that is lit and not inverted shows memory as it stands.
+pub as-it-stands : (l : Light) (from : List ℕ) → (l .lit && l .plain) ≡ true → from ≡ map (glassOf l) from
+as-it-stands l from e = sym (map-id from) ∙ map-same (λ raw. raw) (glassOf l) (λ raw. go (l .lit) (l .plain) raw e) from
+  where
+    go : (b p : Bool) (raw : ℕ) → (b && p) ≡ true → raw ≡ cond b (cond p raw (65535 - raw)) 0
+    go true true raw e = refl
+    go true false raw e = absurd (true≢false (sym e))
+    go false p raw e = absurd (true≢false (sym e))
 
 -- A look at each view.
 module _ {view : FrameView} (l : Light) (raw : ℕ) where
@@ -48,7 +57,6 @@ module _ (view : FrameView) (l : Light) (from to : List ℕ) where
   not-as-long h = rw (ne-eqb (length to) (length from) h)
 
   pub as-long :
-      (k : Look) {out : List ℕ} → length to ≡ length from → ((raw : ℕ) → looked k raw ≡ viewed view l raw) → out ≡ map (looked k) from →
-      out ≡ partSeen view l from to
+      (f : ℕ → ℕ) {out : List ℕ} → length to ≡ length from → ((raw : ℕ) → f raw ≡ viewed view l raw) → out ≡ map f from → out ≡ partSeen view l from to
   unfolding partSeen
-  as-long k h e o = rw (eq-eqb (length to) (length from) h) (o ∙ map-same (looked k) (viewed view l) e from)
+  as-long f h e o = rw (eq-eqb (length to) (length from) h) (o ∙ map-same f (viewed view l) e from)

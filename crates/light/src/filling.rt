@@ -1,47 +1,53 @@
-// A part of memory seen: one loop, and what decides each number of it chosen before.
+// A part of memory seen: copied where it is seen as it stands, and otherwise number by number, on the glass or dimmed as well.
 ghost use mathlib.Core.Path.{_≡_};
 ghost use mathlib.Core.List.{map};
 ghost use lib.ListN.{length};
-ghost use Rattle.light.specs.Light.{partSeen};
-ghost use Rattle.light.specs.Looks.{looked, Ready};
+ghost use Rattle.light.specs.Light.{glassOf, partSeen};
+ghost use Rattle.light.specs.Looks.{dimmedBy};
 use crate::FrameView;
 use crate::Light;
-use crate::Look;
-use crate::dimming::channel_values;
-use crate::dimming::dim_by;
-use crate::glass::glass_pixel;
 use crate::glass::look_of;
+use crate::glass::on_glass;
+use crate::tables::channel_table;
+use crate::tables::dim_by;
 
-// The table that a look needs: none where nothing is dimmed.
-fn values_for(look: Look) -> [u64; 64]
-    ensures { λ r. ⌜ Ready look r ⌝ }
-{
-    let light = look.light;
-    if look.dims {
-        return channel_values(light.level, light.scale);
-    }
-    [0; 64]
-}
-
-fn look_at(look: Look, values: &[u64; 64], raw: u16) -> u16
-    requires { ⌜ Ready look (now values) ⌝ }
-    ensures { λ r. ⌜ r ≡ looked look raw ⌝ }
-{
-    let glass = glass_pixel(look.light, raw);
-    if look.dims {
-        return dim_by(values, glass);
-    }
-    glass
-}
-
-fn fill_by(look: Look, values: &[u64; 64], from: &[u16], to: &mut [u16])
-    requires { ⌜ Ready look (now values) ⌝ }
+fn copy(from: &[u16], to: &mut [u16])
     requires { ⌜ length (now to) ≡ length (now from) ⌝ }
-    ensures { λ r. ⌜ now (to .exit) ≡ map (looked look) (now (from .entry)) ⌝ }
+    ensures { λ r. ⌜ now (to .exit) ≡ now (from .entry) ⌝ }
 {
     let mut i = 0;
     while i < from.len() {
-        to[i] = look_at(look, values, from[i]);
+        to[i] = from[i];
+        i += 1;
+    }
+}
+
+// What is seen as it stands is copied.
+fn fill_glass(light: Light, from: &[u16], to: &mut [u16])
+    requires { ⌜ length (now to) ≡ length (now from) ⌝ }
+    ensures { λ r. ⌜ now (to .exit) ≡ map (glassOf light) (now (from .entry)) ⌝ }
+{
+    if light.lit & light.plain {
+        copy(from, to);
+        return;
+    }
+    let mut i = 0;
+    while i < from.len() {
+        to[i] = on_glass(light, from[i], 65535);
+        i += 1;
+    }
+}
+
+fn fill_dimmed(light: Light, from: &[u16], to: &mut [u16])
+    requires { ⌜ length (now to) ≡ length (now from) ⌝ }
+    ensures { λ r. ⌜ now (to .exit) ≡ map (dimmedBy light) (now (from .entry)) ⌝ }
+{
+    let reds = channel_table(light, 31, 2048);
+    let greens = channel_table(light, 63, 32);
+    let blues = channel_table(light, 31, 1);
+    let mut i = 0;
+    while i < from.len() {
+        to[i] = dim_by(&reds, &greens, &blues, from[i]);
         i += 1;
     }
 }
@@ -54,6 +60,9 @@ pub fn fill(view: FrameView, light: Light, from: &[u16], to: &mut [u16])
         return;
     }
     let look = look_of(view, light);
-    let values = values_for(look);
-    fill_by(look, &values, from, to);
+    if look.dims {
+        fill_dimmed(look.light, from, to);
+        return;
+    }
+    fill_glass(look.light, from, to);
 }

@@ -1,28 +1,23 @@
 // The glass, and one pixel of a view.
 ghost use mathlib.Core.Path.{_≡_};
-ghost use Prim.Native.Nat.{ℕ, _-_};
-ghost use Rattle.light.specs.Light.{glassOf, viewed};
-ghost use Rattle.light.specs.Looks.{looked};
+ghost use Prim.Native.Nat.{ℕ, _≤_};
+ghost use Rattle.light.specs.Light.{viewed};
+ghost use Rattle.light.specs.Looks.{glassOfMost, looked};
 use crate::FrameView;
 use crate::Light;
 use crate::Look;
 use crate::dimming::dim;
 
-fn complement(raw: u16) -> u16
-    ensures { λ r. ⌜ r ≡ 65535 - raw ⌝ }
-{
-    65535 - raw
-}
-
-// Black unless lit, otherwise memory or its complement.
-pub(crate) fn glass_pixel(light: Light, raw: u16) -> u16
-    ensures { λ r. ⌜ r ≡ glassOf light raw ⌝ }
+// A number on the glass, or a channel of one: black unless lit, otherwise itself or its complement. Numbers go up to `most`.
+pub(crate) fn on_glass(light: Light, value: u16, most: u16) -> u16
+    requires { ⌜ value ≤ most ⌝ }
+    ensures { λ r. ⌜ (r ≡ glassOfMost most light value) × (r ≤ most) ⌝ }
 {
     if light.lit {
         if light.plain {
-            return raw;
+            return value;
         }
-        return complement(raw);
+        return most - value;
     }
     0
 }
@@ -55,7 +50,7 @@ pub fn seen(view: FrameView, light: Light, raw: u16) -> u16
 {
     let look = look_of(view, light);
     let through = look.light;
-    let glass = glass_pixel(through, raw);
+    let glass = on_glass(through, raw, 65535);
     if look.dims {
         return dim(glass, through.level, through.scale);
     }

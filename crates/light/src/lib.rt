@@ -7,6 +7,7 @@ pub use glass::seen;
 mod dimming;
 mod filling;
 mod glass;
+mod tables;
 
 pub enum FrameView {
     Raw,

@@ -20,12 +20,20 @@ scale-value-requires-2 c κs = search needs
 scale-value-requires-3 : tie.Need-scale-value-requires-3
 scale-value-requires-3 c κs = search needs
 
-join-by-or-requires : tie.Need-join-by-or-requires
-join-by-or-requires c κs = search needs
+shift-requires : tie.Need-shift-requires
+shift-requires c κs = search needs
+
+shift-requires-2 : tie.Need-shift-requires-2
+shift-requires-2 c κs = search needs
+
+shift-requires-3 : tie.Need-shift-requires-3
+shift-requires-3 c κs = search needs
 
 returns-2 : tie.Need-returns-2
 unfolding dimmed
-returns-2 c = simp (ne-eqb _ _ (c .before .before .before .before .before .if1 .left), c .before .before .before .before .wide16 .ensures .0, c .before .before .before .scale-value .ensures .0, c .before .before .scale-value2 .ensures .0, c .before .scale-value3 .ensures .0, c .join-by-or .ensures)
+returns-2 c =
+    let s = c .before .before .before in
+    simp (ne-eqb _ _ (s .before .before .before .before .if1 .left), s .before .before .before .wide16 .ensures .0, s .before .before .scale-value .ensures .0, s .before .scale-value2 .ensures .0, s .scale-value3 .ensures .0, c .before .before .shift .ensures, c .before .shift2 .ensures, c .shift3 .ensures)
 
 pub dim-spec : {M : Type 1} → statement M
 dim-spec =
@@ -36,5 +44,7 @@ dim-spec =
     scale-value-requires
     scale-value-requires-2
     scale-value-requires-3
-    join-by-or-requires
+    shift-requires
+    shift-requires-2
+    shift-requires-3
     returns-2)

@@ -1,6 +1,7 @@
 pub mod Settings
 pub mod Operations
 pub mod Tallies
+pub mod SameAlways
 pub mod Twins
 pub mod Spans
 pub mod Fits

@@ -1,13 +1,9 @@
--- Same states publish, look and print the same: what publishing answers and leaves, the views, and the report.
+-- Same states look and print the same: the views, the boot comparison and the report.
 use Prim.Native.Nat.{ℕ, _+_}
 use mathlib.Core.Path.{_≡_, refl, sym, ap, _∙_}
 use mathlib.Core.Bool.{Bool, true, false, cond, not, _&&_, _||_}
 use mathlib.Core.List.{List, [], _∷_, _++_, map}
 use lib.Dec.{eqb}
-use Rattle.status.specs.Numbers.{unlessRefused}
-use Rattle.status.specs.Tests.{first, publishRow}
-use Rattle.marks.specs.Rows.{spanOf}
-use Rattle.marks.specs.declared.Span.the-variants.{Nothing}
 use Rattle.lists.specs.Fixed.{used}
 use Rattle.lists.specs.Params.{listed, sameNumbers, differ}
 use Rattle.lists.specs.declared.TraceRecord.{TraceRecord}
@@ -23,11 +19,7 @@ use Rattle.st7789.specs.Parts.{traceOf}
 use Rattle.st7789.specs.declared.St7789p3.{St7789p3}
 use Rattle.views.specs.Views.{lightOf, pixelSeen, frameSeen}
 use Rattle.light.specs.declared.FrameView.{FrameView}
-use Rattle.publishing.specs.Publish.{publishRefusal, published, publishedSpan, publishedFlags, publishedFrame, spanCopied, flagsOf, noFlags}
 use Rattle.laws.specs.Same.{Entry, entry, Content, content, Same}
-use Rattle.laws.proofs.Marks.{unmarked}
-use Rattle.laws.proofs.SameRefused.{bad-same}
-use Rattle.laws.proofs.SameKept.{unmarked-same}
 
 -- The trace beside the boot table: which step differs is told by the content, and so is a line of the trace.
 abbrev fitsIn : BootStep → Entry → Bool
@@ -94,29 +86,3 @@ module _ (s r : St7789p3) (e : Same s r) where
       (view : FrameView) (memory buffer : List ℕ) → frameSeen view (s .controller) memory buffer ≡ frameSeen view (r .controller) memory buffer
   unfolding frameSeen lightOf
   frame-same view memory buffer = ap (λ v. frameSeen view (v .fields) memory buffer) e
-
-  -- Publishing, by the number of its refusal.
-  pub publish-refusal-same : (cells room : ℕ) → publishRefusal s cells room ≡ publishRefusal r cells room
-  unfolding publishRefusal
-  publish-refusal-same cells room = ap (λ b. first (publishRow b cells room)) (bad-same s r e)
-
-  module _ (n : ℕ) where
-    pub published-same : Same (published n s) (published n r)
-    unfolding published
-    published-same = go (eqb n 0)
-      where
-        go : (b : Bool) → Same (cond b (unmarked s) s) (cond b (unmarked r) r)
-        go true = unmarked-same s r e
-        go false = e
-
-    pub span-same : publishedSpan n s ≡ publishedSpan n r
-    unfolding publishedSpan
-    span-same = ap (λ v. unlessRefused n (spanOf (v .fields .marks)) Nothing) e
-
-    pub flags-same : publishedFlags n s ≡ publishedFlags n r
-    unfolding publishedFlags
-    flags-same = ap (λ v. unlessRefused n (flagsOf (v .fields)) noFlags) e
-
-    pub published-frame-same : (memory frame : List ℕ) → publishedFrame n s memory frame ≡ publishedFrame n r memory frame
-    unfolding publishedFrame
-    published-frame-same memory frame = ap (λ v. unlessRefused n (spanCopied (spanOf (v .fields .marks)) memory frame) frame) e

@@ -10,6 +10,7 @@ use board::PanelConfig;
 use lists::PLACES;
 use lists::Params;
 use lists::Warning;
+use st7789::Answer;
 use st7789::Controller;
 use st7789::PanelMemory;
 use st7789::St7789p3;
@@ -68,15 +69,20 @@ fn memory_of(call: usize) -> PanelMemory {
     }
 }
 
+// The panel of an answer, its refusal printed.
+fn answered(answer: Answer) -> St7789p3 {
+    let status = answer.status;
+    print::refusal(status);
+    answer.panel
+}
+
 // transfer TIME DC CS BYTES, bare TIME DC CS BYTES
 fn send(panel: St7789p3, read: Line, bytes: &[u8], memory: &mut [u16]) -> St7789p3 {
     let n = read.numbers;
     let dc = n[2] == 1;
     let release = n[3] == 1;
     let answer = panel.transfer(n[1], dc, bytes, release, memory_of(read.call), memory);
-    let status = answer.status;
-    print::refusal(status);
-    answer.panel
+    answered(answer)
 }
 
 fn domain(n: u64) -> BoardDomain {
@@ -89,21 +95,6 @@ fn domain(n: u64) -> BoardDomain {
         5 => BoardDomain::Flash,
         _ => BoardDomain::Host,
     }
-}
-
-fn reset(panel: St7789p3, n: [u64; 8], memory: &mut [u16]) -> St7789p3 {
-    let answer = panel.reset(domain(n[1]), memory);
-    let status = answer.status;
-    print::refusal(status);
-    answer.panel
-}
-
-fn fresh(n: [u64; 8], memory: &mut [u16]) -> St7789p3 {
-    let cfg = PanelConfig::new(n[1] == 1);
-    let answer = St7789p3::new(cfg, memory);
-    let status = answer.status;
-    print::refusal(status);
-    answer.panel
 }
 
 fn publish(panel: St7789p3, memory: &[u16], frame: &mut [u16]) -> St7789p3 {
@@ -146,27 +137,28 @@ fn kept(bytes: &[u8]) -> Params {
     params
 }
 
-// What a call leaves of the controller, where it needs nothing that is lent.
-fn control(c: Controller, read: Line, params: Params) -> Controller {
-    let n = read.numbers;
+fn long(n: u64) -> u32 {
+    if n < 4294967296 { n as u32 } else { 0 }
+}
+
+// What is switched; any other call leaves the controller as it is.
+fn switched(c: Controller, call: usize, n: [u64; 8]) -> Controller {
     let on = n[1] == 1;
-    let call = read.call;
     match call {
         forms::POWER => c.set_powered(on),
         forms::SWITCH => c.set_invon_shows_ram(on),
-        forms::BRIGHTNESS => {
-            c.set_brightness(sets::long(n[1]), sets::long(n[2]), kinds::short(n[3]))
-        }
+        forms::BRIGHTNESS => c.set_brightness(long(n[1]), long(n[2]), kinds::short(n[3])),
         forms::MARK_ALL => c.mark_all_dirty(),
-        _ => sets::controller(c, read, params),
+        _ => c,
     }
 }
 
-// What such a call leaves of the panel.
-fn controlled(mut panel: St7789p3, read: Line, bytes: &[u8]) -> St7789p3 {
-    let controller = control(panel.controller, read, kept(bytes));
+// What is switched or set.
+fn changed(mut panel: St7789p3, read: Line, bytes: &[u8]) -> St7789p3 {
+    let n = read.numbers;
+    let controller = switched(panel.controller, read.call, n);
     panel.controller = controller;
-    panel
+    sets::panel(panel, read, kept(bytes))
 }
 
 // What a call leaves of the panel and of the lent numbers.
@@ -181,13 +173,10 @@ pub(crate) fn run(
     let call = read.call;
     match call {
         forms::TRANSFER | forms::BARE => send(panel, read, bytes, memory),
-        forms::RESET => reset(panel, n, memory),
-        forms::FRESH => fresh(n, memory),
+        forms::RESET => answered(panel.reset(domain(n[1]), memory)),
+        forms::FRESH => answered(St7789p3::new(PanelConfig::new(n[1] == 1), memory)),
         forms::PUBLISH => publish(panel, memory, frame),
         forms::TAKE_WARNINGS => take_warnings(panel),
-        forms::STORED => sets::stored(panel, n, kept(bytes)),
-        forms::TRACE => sets::trace(panel, read, kept(bytes)),
-        forms::WARNINGS => sets::warnings(panel, read),
         forms::MEMORY => {
             fill(memory, kinds::short(n[2]));
             panel
@@ -196,6 +185,6 @@ pub(crate) fn run(
             fill(frame, kinds::short(n[2]));
             panel
         }
-        _ => controlled(panel, read, bytes),
+        _ => changed(panel, read, bytes),
     }
 }

@@ -1,9 +1,13 @@
-// `set`, for states that no call reaches.
+// `set`, for states that no call reaches: each part of the panel takes the fields that are its own, and stays as it is for any other.
 use crate::forms;
 use crate::forms::Line;
 use crate::kinds;
+use chip::Chip;
 use chip::Decoder;
 use chip::InForce;
+use chip::Registers;
+use geometry::Pointer;
+use geometry::Window;
 use lists::Current;
 use lists::PLACES;
 use lists::Params;
@@ -15,114 +19,80 @@ use marks::Span;
 use pixels::Carry;
 use pixels::Walk;
 use st7789::Controller;
+use st7789::Counts;
 use st7789::Logs;
 use st7789::St7789p3;
 use timing::Moment;
 use timing::Times;
 
-pub(crate) fn long(n: u64) -> u32 {
-    if n < 4294967296 { n as u32 } else { 0 }
-}
-
-// A field that is one number; any other leaves the controller as it is.
-fn number(mut c: Controller, field: usize, n: u64) -> Controller {
+// set sleeping, on, inverted, madctl, colmod, ramctrl
+fn registers(mut r: Registers, field: usize, n: u64) -> Registers {
     let on = n == 1;
     let code = kinds::byte(n);
+    let high = kinds::byte(n / 256);
+    let low = kinds::byte(n % 256);
     match field {
         forms::SLEEPING => {
-            c.chip.registers.sleeping = on;
-            c
+            r.sleeping = on;
+            r
         }
         forms::ON => {
-            c.chip.registers.display_on = on;
-            c
+            r.display_on = on;
+            r
         }
         forms::INVERTED => {
-            c.chip.registers.inverted = on;
-            c
-        }
-        forms::RUN => {
-            c.chip.decoder.in_pixels = on;
-            c
-        }
-        forms::APPLIED => {
-            c.chip.decoder.applied = on;
-            c
+            r.inverted = on;
+            r
         }
         forms::MADCTL => {
-            c.chip.registers.madctl = code;
-            c
+            r.madctl = code;
+            r
         }
         forms::COLMOD => {
-            c.chip.registers.colmod = code;
-            c
+            r.colmod = code;
+            r
         }
-        forms::COMMANDS => {
-            c.counts.commands = n;
-            c
+        forms::RAMCTRL => {
+            r.ramctrl0 = high;
+            r.ramctrl1 = low;
+            r
         }
-        forms::RAMWRS => {
-            c.counts.ramwr_count = n;
-            c
-        }
-        forms::WRITTEN => {
-            c.counts.pixels_written = n;
-            c
-        }
-        forms::DROPPED => {
-            c.counts.dropped_params = n;
-            c
-        }
-        forms::SLPIN => {
-            c.chip.times.slpin = n;
-            c
-        }
-        _ => c,
+        _ => r,
     }
 }
 
-// set ramctrl HHHH
-fn ramctrl(mut c: Controller, n: u64) -> Controller {
-    let high = kinds::byte(n / 256);
-    let low = kinds::byte(n % 256);
-    c.chip.registers.ramctrl0 = high;
-    c.chip.registers.ramctrl1 = low;
-    c
+// set win XS XE YS YE X Y: the window, and below the pointer.
+fn window(old: Window, field: usize, n: [u64; 8]) -> Window {
+    if field != forms::WIN {
+        return old;
+    }
+    Window {
+        xs: kinds::short(n[2]),
+        xe: kinds::short(n[3]),
+        ys: kinds::short(n[4]),
+        ye: kinds::short(n[5]),
+    }
 }
 
-// set win XS XE YS YE X Y
-fn win(mut c: Controller, n: [u64; 8]) -> Controller {
-    let xs = kinds::short(n[2]);
-    let xe = kinds::short(n[3]);
-    let ys = kinds::short(n[4]);
-    let ye = kinds::short(n[5]);
-    let x = kinds::short(n[6]);
-    let y = kinds::short(n[7]);
-    c.chip.window.xs = xs;
-    c.chip.window.xe = xe;
-    c.chip.window.ys = ys;
-    c.chip.window.ye = ye;
-    c.chip.walk.pointer.x = x;
-    c.chip.walk.pointer.y = y;
-    c
-}
-
-fn carry_of(none: bool, n: u64) -> Carry {
+fn carry(none: bool, n: u64) -> Carry {
     if none {
         return Carry::Empty;
     }
     Carry::High(kinds::byte(n))
 }
 
-// set carry HH
-fn carry(mut c: Controller, none: bool, n: u64) -> Controller {
-    let mut chip = c.chip;
-    let old = chip.walk;
-    let carry = carry_of(none, n);
-    let walk = Walk { carry, ..old };
-    chip.walk = walk;
-    c.chip = chip;
-    c
+// set win, set carry HH
+fn walk(old: Walk, field: usize, none: bool, n: [u64; 8]) -> Walk {
+    let pointer = Pointer {
+        x: kinds::short(n[6]),
+        y: kinds::short(n[7]),
+    };
+    let carry = carry(none, n[2]);
+    match field {
+        forms::WIN => Walk { pointer, ..old },
+        forms::CARRY => Walk { carry, ..old },
+        _ => old,
+    }
 }
 
 fn in_force(none: bool, n: u64) -> InForce {
@@ -132,25 +102,20 @@ fn in_force(none: bool, n: u64) -> InForce {
     InForce::Code(kinds::byte(n))
 }
 
-// set cmd HH
-fn cmd(mut c: Controller, none: bool, n: u64) -> Controller {
-    let mut chip = c.chip;
-    let old = chip.decoder;
+// set run, set applied, set cmd HH, set params BYTES
+fn decoder(old: Decoder, field: usize, none: bool, n: u64, params: Params) -> Decoder {
+    let on = n == 1;
     let cmd = in_force(none, n);
-    let decoder = Decoder { cmd, ..old };
-    chip.decoder = decoder;
-    c.chip = chip;
-    c
-}
-
-// set params BYTES
-fn params(mut c: Controller, params: Params) -> Controller {
-    let mut chip = c.chip;
-    let old = chip.decoder;
-    let decoder = Decoder { params, ..old };
-    chip.decoder = decoder;
-    c.chip = chip;
-    c
+    match field {
+        forms::RUN => Decoder {
+            in_pixels: on,
+            ..old
+        },
+        forms::APPLIED => Decoder { applied: on, ..old },
+        forms::CMD => Decoder { cmd, ..old },
+        forms::PARAMS => Decoder { params, ..old },
+        _ => old,
+    }
 }
 
 fn moment(none: bool, n: u64) -> Moment {
@@ -160,15 +125,51 @@ fn moment(none: bool, n: u64) -> Moment {
     Moment::At(n)
 }
 
-// set slpout TIME
-fn slpout(mut c: Controller, none: bool, n: u64) -> Controller {
-    let mut chip = c.chip;
-    let old = chip.times;
+// set slpout TIME, set slpin TIME
+fn times(old: Times, field: usize, none: bool, n: u64) -> Times {
     let slpout = moment(none, n);
-    let times = Times { slpout, ..old };
-    chip.times = times;
-    c.chip = chip;
-    c
+    match field {
+        forms::SLPOUT => Times { slpout, ..old },
+        forms::SLPIN => Times { slpin: n, ..old },
+        _ => old,
+    }
+}
+
+fn chip(old: Chip, read: Line, params: Params) -> Chip {
+    let n = read.numbers;
+    let field = read.call;
+    let registers = registers(old.registers, field, n[2]);
+    let window = window(old.window, field, n);
+    let walk = walk(old.walk, field, read.none, n);
+    let decoder = decoder(old.decoder, field, read.none, n[2], params);
+    let times = times(old.times, field, read.none, n[2]);
+    Chip {
+        registers,
+        window,
+        walk,
+        decoder,
+        times,
+    }
+}
+
+// set commands, ramwrs, pixels, dropped
+fn counts(old: Counts, field: usize, n: u64) -> Counts {
+    match field {
+        forms::COMMANDS => Counts { commands: n, ..old },
+        forms::RAMWRS => Counts {
+            ramwr_count: n,
+            ..old
+        },
+        forms::WRITTEN => Counts {
+            pixels_written: n,
+            ..old
+        },
+        forms::DROPPED => Counts {
+            dropped_params: n,
+            ..old
+        },
+        _ => old,
+    }
 }
 
 fn span(none: bool, first: u64, last: u64) -> Span {
@@ -179,57 +180,19 @@ fn span(none: bool, first: u64, last: u64) -> Span {
 }
 
 // set dirty FIRST LAST
-fn dirty(mut c: Controller, none: bool, first: u64, last: u64) -> Controller {
-    let dirty = span(none, first, last);
-    let marks = Marks::of_span(dirty);
-    c.marks = marks;
-    c
+fn marks(old: Marks, read: Line) -> Marks {
+    let n = read.numbers;
+    if read.call == forms::DIRTY {
+        return Marks::of_span(span(read.none, n[2], n[3]));
+    }
+    old
 }
 
-fn place(none: bool, n: u64) -> Current {
+fn current(none: bool, n: u64) -> Current {
     if none {
         return Current::Nothing;
     }
     Current::At(kinds::byte(n))
-}
-
-// set current INDEX
-fn current(mut c: Controller, none: bool, n: u64) -> Controller {
-    let old = c.logs;
-    let current = place(none, n);
-    let logs = Logs { current, ..old };
-    c.logs = logs;
-    c
-}
-
-pub(crate) fn controller(c: Controller, read: Line, list: Params) -> Controller {
-    let n = read.numbers;
-    let field = read.call;
-    match field {
-        forms::RAMCTRL => ramctrl(c, n[2]),
-        forms::WIN => win(c, n),
-        forms::CARRY => carry(c, read.none, n[2]),
-        forms::CMD => cmd(c, read.none, n[2]),
-        forms::PARAMS => params(c, list),
-        forms::SLPOUT => slpout(c, read.none, n[2]),
-        forms::DIRTY => dirty(c, read.none, n[2], n[3]),
-        forms::CURRENT => current(c, read.none, n[2]),
-        _ => number(c, field, n[2]),
-    }
-}
-
-// set stored HH BYTES, set stored HH none
-pub(crate) fn stored(mut panel: St7789p3, n: [u64; 8], params: Params) -> St7789p3 {
-    let place = n[2] as usize;
-    let entry = Stored {
-        present: n[3] == 0,
-        params,
-    };
-    if place < 12 {
-        panel.stored[place] = entry;
-        return panel;
-    }
-    panel
 }
 
 // A list's count with one entry more, or none.
@@ -240,52 +203,108 @@ fn counted(n: u8, none: bool) -> u8 {
     if n < 255 { n + 1 } else { n }
 }
 
-// The place of entry n; past the list where there is none, or no entry to add.
-fn slot(n: u8, none: bool) -> usize {
-    if none {
-        return PLACES;
+// set current INDEX, and the counts after set trace and set warnings
+fn logs(old: Logs, field: usize, none: bool, n: u64) -> Logs {
+    let current = current(none, n);
+    let traced = counted(old.traced, none);
+    let warned = counted(old.warned, none);
+    match field {
+        forms::CURRENT => Logs { current, ..old },
+        forms::TRACE => Logs { traced, ..old },
+        forms::WARNINGS => Logs { warned, ..old },
+        _ => old,
     }
-    lists::free(n, PLACES)
+}
+
+fn controller(old: Controller, read: Line, params: Params) -> Controller {
+    let n = read.numbers;
+    let field = read.call;
+    let chip = chip(old.chip, read, params);
+    let counts = counts(old.counts, field, n[2]);
+    let marks = marks(old.marks, read);
+    let logs = logs(old.logs, field, read.none, n[2]);
+    Controller {
+        chip,
+        counts,
+        marks,
+        logs,
+        ..old
+    }
+}
+
+// A place to put an entry at; past the list where none is to be put.
+fn place_if(asked: bool, place: usize) -> usize {
+    if asked { place } else { PLACES }
+}
+
+// set stored HH BYTES, set stored HH none
+fn stored(mut all: [Stored; 12], field: usize, n: [u64; 8], params: Params) -> [Stored; 12] {
+    let place = place_if(field == forms::STORED, n[2] as usize);
+    let entry = Stored {
+        present: n[3] == 0,
+        params,
+    };
+    if place < 12 {
+        all[place] = entry;
+    }
+    all
 }
 
 // set trace CMD TIME PIXELBYTES BYTES. The count may pass the list; what fits is kept.
-pub(crate) fn trace(mut panel: St7789p3, read: Line, params: Params) -> St7789p3 {
+fn records(
+    mut all: [TraceRecord; PLACES],
+    used: u8,
+    read: Line,
+    params: Params,
+) -> [TraceRecord; PLACES] {
     let n = read.numbers;
-    let cmd = kinds::byte(n[2]);
     let record = TraceRecord {
         at: n[3],
         pixel_bytes: n[4],
         params,
-        cmd,
+        cmd: kinds::byte(n[2]),
     };
-    let used = panel.controller.logs.traced;
-    let count = counted(used, read.none);
-    let place = slot(used, read.none);
-    panel.controller.logs.traced = count;
+    let place = place_if(
+        (read.call == forms::TRACE) & !read.none,
+        lists::free(used, PLACES),
+    );
     if place < PLACES {
-        panel.records[place] = record;
-        return panel;
+        all[place] = record;
     }
-    panel
+    all
 }
 
 // set warnings RULE CMD TIME, likewise
-pub(crate) fn warnings(mut panel: St7789p3, read: Line) -> St7789p3 {
+fn warnings(mut all: [Warning; PLACES], used: u8, read: Line) -> [Warning; PLACES] {
     let n = read.numbers;
-    let rule = kinds::byte(n[2]);
-    let cmd = kinds::byte(n[3]);
     let warning = Warning {
         at: n[4],
-        rule,
-        cmd,
+        rule: kinds::byte(n[2]),
+        cmd: kinds::byte(n[3]),
     };
-    let used = panel.controller.logs.warned;
-    let count = counted(used, read.none);
-    let place = slot(used, read.none);
-    panel.controller.logs.warned = count;
+    let place = place_if(
+        (read.call == forms::WARNINGS) & !read.none,
+        lists::free(used, PLACES),
+    );
     if place < PLACES {
-        panel.warnings[place] = warning;
-        return panel;
+        all[place] = warning;
     }
+    all
+}
+
+pub(crate) fn panel(mut panel: St7789p3, read: Line, params: Params) -> St7789p3 {
+    let n = read.numbers;
+    let logs = panel.controller.logs;
+    let old_stored = panel.stored;
+    let old_records = panel.records;
+    let old_warnings = panel.warnings;
+    let controller = controller(panel.controller, read, params);
+    let stored = stored(old_stored, read.call, n, params);
+    let records = records(old_records, logs.traced, read, params);
+    let warnings = warnings(old_warnings, logs.warned, read);
+    panel.controller = controller;
+    panel.stored = stored;
+    panel.records = records;
+    panel.warnings = warnings;
     panel
 }

@@ -31,9 +31,12 @@ impl Case {
                 input: gen_logs::log_of(own, 25),
             };
         }
-        // One script in twenty-four is long.
-        let scenes = if number % 24 == 0 { 14 } else { 2 };
-        let text = gen_scripts::script_of(own, scenes);
+        // One script in twenty-four is long, and one looks at many brightness pairs.
+        let text = match number % 24 {
+            0 => gen_scripts::script_of(own, 14),
+            12 => gen_scripts::dimming_of(own),
+            _ => gen_scripts::script_of(own, 2),
+        };
         Case {
             kind: Kind::Script,
             input: with_dumps(text.as_bytes()),

@@ -30,6 +30,11 @@ pub struct Coverage {
     /// Data segments of a run that leave a byte waiting, and those that find one waiting.
     left_waiting: u64,
     found_waiting: u64,
+    /// Looks at Perceived of a lit panel that were answered: with the level at most the scale, and
+    /// with the level above it.
+    perceived: [u64; 2],
+    /// Whether the line that runs is such a look, and with the level above the scale.
+    looks_above: Option<bool>,
     /// What of the model was met, by name; only where `names` is set, since it takes time.
     names: bool,
     pub met: BTreeSet<String>,
@@ -61,6 +66,12 @@ impl Coverage {
 
     /// Looks at the state before a line of a script.
     pub fn before(&mut self, panel: &St7789p3, words: &[&[u8]]) {
+        let looks = match words {
+            [b"view" | b"pixels" | b"pixel", b"perceived", ..] | [b"dump"] => panel.lit(),
+            _ => false,
+        };
+        let pair = panel.brightness();
+        self.looks_above = looks.then_some(pair.level() > pair.scale());
         if !self.names {
             return;
         }
@@ -98,6 +109,10 @@ impl Coverage {
     /// Counts a line of a script and what it printed; nothing printed is `None` for a bad line.
     pub fn after(&mut self, words: &[&[u8]], printed: Option<&str>) {
         let name = text(words[0]);
+        let answered = printed.is_some_and(|printed| !printed.starts_with("refused"));
+        if let (Some(above), true) = (self.looks_above, answered) {
+            self.perceived[usize::from(above)] += 1;
+        }
         let Some(printed) = printed else {
             self.bad_lines += 1;
             let whole: Vec<String> = words.iter().map(|word| text(word)).collect();
@@ -279,6 +294,9 @@ impl Coverage {
         self.bad_lines += other.bad_lines;
         self.left_waiting += other.left_waiting;
         self.found_waiting += other.found_waiting;
+        for (of, count) in other.perceived.iter().enumerate() {
+            self.perceived[of] += count;
+        }
         self.pixels.stored += other.pixels.stored;
         self.pixels.inverted += other.pixels.inverted;
         self.pixels.unmapped += other.pixels.unmapped;
@@ -350,6 +368,14 @@ impl Coverage {
             format_args!(
                 "pixel segments that left a byte waiting {}, that found one waiting {}",
                 self.left_waiting, self.found_waiting
+            ),
+        );
+        let [up_to, above] = self.perceived;
+        line(
+            &mut out,
+            format_args!(
+                "looks at Perceived, lit: {up_to} with level at most scale, {above} above it (Q-1: \
+                 the Rust at scale over scale)"
             ),
         );
         out

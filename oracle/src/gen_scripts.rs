@@ -139,6 +139,49 @@ pub fn script_of(seed: u64, most: u64) -> String {
     writer.text(random)
 }
 
+/// A lit panel with a few hundred pixels of any colour, looked at through many brightness pairs.
+pub fn dimming_of(seed: u64) -> String {
+    let random = &mut Random::new(seed);
+    let mut writer = Writer {
+        lines: Vec::new(),
+        pixels: 9,
+    };
+    writer.line("power 1");
+    writer.line("transfer 0 0 0 11292c");
+    let bytes = random.bytes(960);
+    writer.line(format!("transfer 0 1 1 {}", bytes_text(random, &bytes)));
+    for _ in 0..600 {
+        let (level, scale) = pair_of(random);
+        writer.line(format!("brightness {level} {scale} 0"));
+        let (x, y) = (random.below(240), random.below(2));
+        writer.line(format!("pixel perceived {x} {y}"));
+        if random.one_in(60) {
+            writer.line(random.pick(&["view perceived", "switch 0", "switch 1"]));
+        }
+    }
+    writer.text(random)
+}
+
+/// A brightness pair: small, at the largest numbers, near one another, or any; mostly brighter than
+/// full.
+fn pair_of(random: &mut Random) -> (u64, u64) {
+    let most = u64::from(u32::MAX);
+    let (a, b) = match random.below(4) {
+        0 => (random.below(9), random.below(9)),
+        1 => (most - random.below(3), random.below(70)),
+        2 => {
+            let near = random.within(1, most - 1);
+            (near, near - 1 + random.below(3))
+        }
+        _ => (random.below(most + 1), random.below(most + 1)),
+    };
+    if random.one_in(4) {
+        (a.min(b), a.max(b))
+    } else {
+        (a.max(b), a.min(b))
+    }
+}
+
 struct Writer {
     lines: Vec<String>,
     /// Of so many whole views one is shown by its pixels: fewer in long scripts.

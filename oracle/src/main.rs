@@ -37,7 +37,7 @@ const USAGE: &str = "\
 oracle: runs the unchanged Rust model of the panel
   oracle replay < LOG                what panel-replay prints of a log
   oracle script < SCRIPT             what a script of calls prints
-  oracle unguarded < SCRIPT          the same with no call refused
+  oracle unguarded < SCRIPT          the same by the Rust as it is, with no call refused
   oracle gen-logs SEED N DIR         writes N generated logs into the folder DIR
   oracle gen-scripts SEED N DIR      writes N generated scripts into the folder DIR
   oracle compare SEED CASES          compares our programs with the Rust on generated cases
@@ -64,8 +64,9 @@ the end the dump, or stops with `bad line N`.
 
 const UNGUARDED_USAGE: &str = "\
 oracle unguarded < SCRIPT
-Runs a script with no call refused, as the Rust does by itself; it may end in a panic. For showing
-what the Rust does where the table refuses; nothing is compared with it.
+Runs a script with no call refused and every brightness pair as it stands, as the Rust does by itself;
+it may end in a panic. For showing what the Rust does where the table refuses or Q-1 dims otherwise;
+nothing is compared with it.
 ";
 
 const GEN_LOGS_USAGE: &str = "\

@@ -1,8 +1,10 @@
 //! What is printed of a panel: the lines of panel-replay, the rest of the dump, and digests.
 
 use std::fmt::Write;
+use std::sync::atomic::{AtomicBool, Ordering};
 
-use crate::st7789::reach::hidden;
+use crate::backlight::reach::pair;
+use crate::st7789::reach::{fields, hidden};
 use crate::st7789::{FrameView, MAX_PARAMS, PANEL_WIDTH, St7789p3, TRACE_LIMIT};
 use crate::st7789::{TimingLint, TimingWarning, TraceEntry};
 
@@ -58,8 +60,25 @@ pub fn replay_lines(panel: &St7789p3, out: &mut String) {
     }
 }
 
+/// Set where the Rust is run as it is, without the table of refusals and without Q-1's limit.
+pub static UNGUARDED: AtomicBool = AtomicBool::new(false);
+
+/// A look at the panel as Q-1 has it dimmed. Up to the scale the level is what it is; above, it counts
+/// as the scale, and the Rust looks at scale over scale.
+pub fn at_most_full<T>(panel: &mut St7789p3, look: impl FnOnce(&St7789p3) -> T) -> T {
+    let given = panel.brightness();
+    if UNGUARDED.load(Ordering::Relaxed) {
+        return look(panel);
+    }
+    let level = given.level().min(given.scale());
+    *fields(panel).brightness = pair(level, given.scale());
+    let seen = look(panel);
+    *fields(panel).brightness = given;
+    seen
+}
+
 /// The whole dump, with the digest of the frame's numbers.
-pub fn dump(panel: &St7789p3, frame: &[u16], out: &mut String) {
+pub fn dump(panel: &mut St7789p3, frame: &[u16], out: &mut String) {
     replay_lines(panel, out);
     let inner = hidden(panel);
     line(
@@ -99,10 +118,8 @@ pub fn dump(panel: &St7789p3, frame: &[u16], out: &mut String) {
     line(out, format_args!("digest memory {}", digest(panel.raw())));
     line(out, format_args!("digest frame {}", digest(frame)));
     for (name, view) in VIEWS {
-        line(
-            out,
-            format_args!("digest {name} {}", digest(&panel.frame(view))),
-        );
+        let numbers = at_most_full(panel, |panel| panel.frame(view));
+        line(out, format_args!("digest {name} {}", digest(&numbers)));
     }
 }
 

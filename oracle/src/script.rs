@@ -1,6 +1,6 @@
 //! Scripts of calls: each line is read, tested against the table of refusals, and run on the Rust.
 
-use std::sync::atomic::{AtomicBool, Ordering};
+use std::sync::atomic::Ordering;
 
 use pemu_core::hostio::FramePort;
 use pemu_core::time::VTime;
@@ -9,7 +9,7 @@ use crate::backlight::Brightness;
 use crate::backlight::reach::pair;
 use crate::coverage::Coverage;
 use crate::refusals::{self, Lent};
-use crate::report::{self, RULES, VIEWS, bit, digest, line};
+use crate::report::{self, RULES, UNGUARDED, VIEWS, at_most_full, bit, digest, line};
 use crate::st7789::reach::fields;
 use crate::st7789::{FrameView, PANEL_HEIGHT, PANEL_PIXELS, PANEL_WIDTH, PanelConfig, St7789p3};
 use crate::st7789::{STORED_COMMANDS, TimingWarning, TraceEntry};
@@ -38,14 +38,12 @@ pub fn run(script: &[u8]) -> String {
     run_seen(script, None)
 }
 
-/// What a script prints where nothing is refused: the Rust as it is, without the table around it.
+/// What a script prints where nothing is refused: the Rust as it is, without the table and Q-1's limit
+/// around it.
 pub fn run_unguarded(script: &[u8]) -> String {
     UNGUARDED.store(true, Ordering::Relaxed);
     run_seen(script, None)
 }
-
-/// Set where the table of refusals is left out.
-static UNGUARDED: AtomicBool = AtomicBool::new(false);
 
 /// What a script prints; its calls are counted in `seen`.
 pub fn run_seen(script: &[u8], seen: Option<&mut Coverage>) -> String {
@@ -67,7 +65,7 @@ pub fn run_seen(script: &[u8], seen: Option<&mut Coverage>) -> String {
             return out;
         }
     }
-    report::dump(&bench.panel, &bench.port.pixels, &mut out);
+    report::dump(&mut bench.panel, &bench.port.pixels, &mut out);
     out
 }
 
@@ -173,22 +171,23 @@ impl Bench<'_> {
             [b"view", name] => {
                 let (name, view) = view_named(name)?;
                 if accepted(refusals::view(self.lent), out) {
-                    let numbers = self.panel.frame(view);
+                    let numbers = at_most_full(&mut self.panel, |panel| panel.frame(view));
                     line(out, format_args!("view {name} {}", digest(&numbers)));
                 }
             }
             [b"pixels", name] => {
                 let (name, view) = view_named(name)?;
                 if accepted(refusals::view(self.lent), out) {
+                    let numbers = at_most_full(&mut self.panel, |panel| panel.frame(view));
                     line(out, format_args!("pixels {name}"));
-                    report::pixel_lines(&self.panel.frame(view), out);
+                    report::pixel_lines(&numbers, out);
                 }
             }
             [b"pixel", name, x, y] => {
                 let (name, view) = view_named(name)?;
                 let (x, y) = (word16(x)?, word16(y)?);
                 if accepted(refusals::memory(self.lent), out) {
-                    let pixel = self.panel.pixel(view, x, y);
+                    let pixel = at_most_full(&mut self.panel, |panel| panel.pixel(view, x, y));
                     line(out, format_args!("pixel {name} {x} {y} {pixel:04x}"));
                 }
             }
@@ -213,7 +212,7 @@ impl Bench<'_> {
             [b"lend", b"memory", length] => self.lent.memory = lendable(length)?,
             [b"lend", b"frame", length] => self.lent.frame = lendable(length)?,
             [b"lend", b"view", length] => self.lent.view = lendable(length)?,
-            [b"dump"] => report::dump(&self.panel, &self.port.pixels, out),
+            [b"dump"] => report::dump(&mut self.panel, &self.port.pixels, out),
             [b"set", b"frame", pixel] => self.port.pixels.fill(hex(pixel, 4)?),
             [b"set", field, values @ ..] => set(&mut self.panel, field, values)?,
             _ => return None,

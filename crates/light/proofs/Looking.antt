@@ -1,5 +1,5 @@
 -- A view as a look, and a part of memory seen.
-use Prim.Native.Nat.{ℕ, _-_}
+use Prim.Native.Nat.{ℕ, _-_, _≤_}
 use mathlib.Core.Path.{_≡_, refl, sym, ap, _∙_}
 use mathlib.Core.Bool.{Bool, true, false, cond, _&&_, true≢false}
 use mathlib.Core.List.{List, map, map-id}
@@ -12,7 +12,7 @@ use Rattle.light.specs.declared.FrameView.the-variants.{Raw, Glass, Perc
 use Rattle.light.specs.declared.Light.{Light}
 use Rattle.light.specs.declared.Look.{Look}
 use Rattle.lists.proofs.Mapping.{map-same}
-use Rattle.light.proofs.Channels.{dimmed-black}
+use Rattle.light.proofs.Channels.{dimmed-full, dimmed-black}
 
 -- A number by a look, dimmed or not.
 module _ (k : Look) (raw : ℕ) {g : ℕ} (eg : g ≡ glassOf (k .light) raw) where
@@ -49,6 +49,11 @@ module _ {view : FrameView} (l : Light) (raw : ℕ) where
           (b : Bool) (v : ℕ) → cond b (dimmed (cond b v 0) (l .level) (l .scale)) (cond b v 0) ≡ dimmed (cond b v 0) (l .level) (l .scale)
       by-light true v = refl
       by-light false v = sym (dimmed-black (l .level) (l .scale))
+
+-- At full brightness Perceived is Glass.
+pub perceived-full : (l : Light) (raw : ℕ) → l .scale ≤ l .level → (l .scale ≡ 0 → ⊥) → viewed Perceived l raw ≡ viewed Glass l raw
+unfolding viewed
+perceived-full l raw full some = dimmed-full (glassOf l raw) (l .level) (l .scale) full some
 
 -- The ways out of `fill`.
 module _ (view : FrameView) (l : Light) (from to : List ℕ) where

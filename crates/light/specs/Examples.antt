@@ -21,9 +21,12 @@ allSeen (r ∷ rs) = eqb (dimmed (r .pixel) (r .level) (r .scale)) (r .seen) && 
 -- The table.
 unfoldable pub rows : List Row
 rows =
-    -- level 0, scale 0, full brightness, the largest pair
+    -- level 0, scale 0, full brightness
     record { pixel = 0xFFFF; level = 0; scale = 1; seen = 0 }
     ∷ record { pixel = 0xFFFF; level = 1; scale = 0; seen = 0 }
     ∷ record { pixel = 0xA5C3; level = 1024; scale = 1024; seen = 0xA5C3 }
-    ∷ record { pixel = 0xFFFF; level = 2 ^ 32 - 1; scale = 1; seen = 0xFFFF }
+    -- level above scale: one more, the largest pair, and Q-1's slider, 3 over 2, where channels spilled into their neighbours: 7BEE
+    ∷ record { pixel = 0xA5C3; level = 1025; scale = 1024; seen = 0xA5C3 }
+    ∷ record { pixel = 0xA5C3; level = 2 ^ 32 - 1; scale = 1; seen = 0xA5C3 }
+    ∷ record { pixel = 0xFFFF; level = 3; scale = 2; seen = 0xFFFF }
     ∷ []

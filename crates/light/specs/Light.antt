@@ -1,31 +1,35 @@
--- Rules: 01, "Fresh panel, views, publishing": what a number of memory looks like, dimmed or not.
-use Prim.Native.Nat.{ℕ, _-_, _*_, _/_, _%_, _^_, min}
+-- Rules: 01, "Fresh panel, views, publishing", and Q-1: what a number of memory looks like, dimmed or not.
+use Prim.Native.Nat.{ℕ, _+_, _-_, _*_, _/_, _%_, min}
 use mathlib.Core.Bool.{cond}
 use mathlib.Core.List.{List, map}
 use lib.ListN.{length}
-use lib.Bits.{bitOr}
 use lib.Dec.{eqb}
 use Rattle.light.specs.declared.Light.{Light}
 use Rattle.light.specs.declared.FrameView.{FrameView}
 use Rattle.light.specs.declared.FrameView.the-variants.{Raw, Glass, Perceived}
 
--- "each channel becomes channel x level / scale, rounded down, at most 2^32 - 1, and 0 for scale 0"
+-- The channels of a pixel: red is its upper five bits, green the six below, blue the lower five.
+abbrev pub redOf : ℕ → ℕ
+redOf pixel = pixel / 2048
+
+abbrev pub greenOf : ℕ → ℕ
+greenOf pixel = pixel / 32 % 64
+
+abbrev pub blueOf : ℕ → ℕ
+blueOf pixel = pixel % 32
+
+-- A pixel with each channel changed, the three side by side as they were.
+abbrev pub eachChannel : (ℕ → ℕ) → ℕ → ℕ
+eachChannel f pixel = f (redOf pixel) * 2048 + f (greenOf pixel) * 32 + f (blueOf pixel)
+
+-- "each channel becomes channel x level / scale, rounded down, .. and 0 for scale 0"; Q-1: "A pair with level above scale shall dim as level
+-- equal to scale; scale 0 stays black."
 abbrev pub scaled : ℕ → ℕ → ℕ → ℕ
-scaled channel level scale = cond (eqb scale 0) 0 (min (channel * level / scale) (2 ^ 32 - 1))
+scaled channel level scale = cond (eqb scale 0) 0 (channel * min level scale / scale)
 
--- "the low 16 bits of each, shifted by 11, 5, 0 within 16 bits"
-abbrev pub shifted : ℕ → ℕ → ℕ
-shifted channel by = channel % 65536 * 2 ^ by % 65536
-
--- "are joined by or"
-abbrev pub joinedByOr : ℕ → ℕ → ℕ → ℕ
-joinedByOr red green blue = bitOr (bitOr (shifted red 11) (shifted green 5)) (shifted blue 0)
-
--- "level 0 gives 0"; "each channel": red is the upper five bits of a pixel, green the six below, blue the lower five.
+-- "level 0 gives 0; each channel becomes .."
 unfoldable pub dimmed : ℕ → ℕ → ℕ → ℕ
-dimmed pixel level scale =
-    cond (eqb level 0) 0
-    (joinedByOr (scaled (pixel / 2048) level scale) (scaled (pixel / 32 % 64) level scale) (scaled (pixel % 32) level scale))
+dimmed pixel level scale = cond (eqb level 0) 0 (eachChannel (λ channel. scaled channel level scale) pixel)
 
 -- "Glass is 0 unless powered, awake and on; then memory if inversion equals the switch, else its complement.": `lit` is the first, `plain`
 -- the second.

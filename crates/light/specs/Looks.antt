@@ -1,5 +1,5 @@
 -- Workshop: what the loops over a part go by.
-use Prim.Native.Nat.{ℕ, _-_, _*_, _%_, _≤_}
+use Prim.Native.Nat.{ℕ, _-_, _*_, _≤_}
 use mathlib.Core.Path.{_≡_}
 use mathlib.Core.Bool.{cond}
 use mathlib.Core.List.{List}
@@ -14,7 +14,7 @@ glassOfMost most l value = cond (l .lit) (cond (l .plain) value (most - value)) 
 
 -- What a value of a channel becomes, on the glass and dimmed, in the channel's place in a pixel.
 abbrev pub placed : Light → ℕ → ℕ → ℕ → ℕ
-placed l most times value = scaled (glassOfMost most l value) (l .level) (l .scale) % 65536 * times % 65536
+placed l most times value = scaled (glassOfMost most l value) (l .level) (l .scale) * times
 
 -- A table of what each value of a channel becomes.
 abbrev pub Table : Light → ℕ → ℕ → List ℕ → Type 0

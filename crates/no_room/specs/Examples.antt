@@ -184,9 +184,9 @@ rows dim =
     ∷ record { calls = commandsAt (ms 200) (0x11 ∷ []) ∷ commandsAt (ms 320) (0x10 ∷ []) ∷ []; passes = warns [] }
     -- P10: after that 11, 10 at 203 ms: rules 1 and 2
     ∷ record { calls = commandsAt (ms 200) (0x11 ∷ []) ∷ commandsAt (ms 203) (0x10 ∷ []) ∷ []; passes = warns (1 ∷ 2 ∷ []) }
-    -- P11: FFFF dimmed 1/2: 7BEF; 2/1: FFFE
+    -- P11: FFFF dimmed 1/2: 7BEF; 2/1, as Q-1 has it: FFFF
     ∷ record { calls = []; passes = λ p. eqb (dim 0xFFFF 1 2) 0x7BEF }
-    ∷ record { calls = []; passes = λ p. eqb (dim 0xFFFF 2 1) 0xFFFE }
+    ∷ record { calls = []; passes = λ p. eqb (dim 0xFFFF 2 1) 0xFFFF }
     -- P12: 2C, F8, 3C, 00: F800 stored; with CS released before 3C: nothing, carry 00
     ∷ record {
       calls = command 0x2C ∷ segment (0xF8 ∷ []) ∷ command 0x3C ∷ segment (0x00 ∷ []) ∷ [];

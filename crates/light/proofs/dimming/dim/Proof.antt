@@ -1,12 +1,7 @@
-use borrow.Author.Tests.{eq-eqb, ne-eqb}
-use Rattle.light.specs.Light.{dimmed}
+use Rattle.light.proofs.Channels.{dimmed-scaled}
 use borrow.Author.Needs.{needs}
 use Rattle.light.proofs.dimming.dim.Statement.{statement}
 use Rattle.light.proofs.dimming.dim.Tie as tie
-
-returns : tie.Need-returns
-unfolding dimmed
-returns c = simp (eq-eqb _ _ (c .if1 .taken))
 
 wide16-requires : tie.Need-wide16-requires
 wide16-requires c κs = search needs
@@ -20,31 +15,37 @@ scale-value-requires-2 c κs = search needs
 scale-value-requires-3 : tie.Need-scale-value-requires-3
 scale-value-requires-3 c κs = search needs
 
-shift-requires : tie.Need-shift-requires
-shift-requires c κs = search needs
+mul-result : tie.Need-mul-result
+mul-result c = search needs
 
-shift-requires-2 : tie.Need-shift-requires-2
-shift-requires-2 c κs = search needs
+mul-result-2 : tie.Need-mul-result-2
+mul-result-2 c = search needs
 
-shift-requires-3 : tie.Need-shift-requires-3
-shift-requires-3 c κs = search needs
+add-result : tie.Need-add-result
+add-result c = search needs
 
-returns-2 : tie.Need-returns-2
-unfolding dimmed
-returns-2 c =
-    let s = c .before .before .before in
-    simp (ne-eqb _ _ (s .before .before .before .before .if1 .left), s .before .before .before .wide16 .ensures .0, s .before .before .scale-value .ensures .0, s .before .scale-value2 .ensures .0, s .scale-value3 .ensures .0, c .before .before .shift .ensures, c .before .shift2 .ensures, c .shift3 .ensures)
+add-result-2 : tie.Need-add-result-2
+add-result-2 c = search needs
+
+cast-result : tie.Need-cast-result
+cast-result c = search needs
+
+returns : tie.Need-returns
+returns c =
+    simp (c .before .before .before .wide16 .ensures .0, c .before .before .scale-value .ensures .0, c .before .scale-value2 .ensures .0, c .scale-value3 .ensures .0)
+    (dimmed-scaled _ _ _)
 
 pub dim-spec : {M : Type 1} → statement M
 dim-spec =
     tie.close
     (tie.spec
-    returns
     wide16-requires
     scale-value-requires
     scale-value-requires-2
     scale-value-requires-3
-    shift-requires
-    shift-requires-2
-    shift-requires-3
-    returns-2)
+    mul-result
+    mul-result-2
+    add-result
+    add-result-2
+    cast-result
+    returns)

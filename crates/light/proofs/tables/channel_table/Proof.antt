@@ -1,4 +1,4 @@
-use Prim.Native.Nat.{ℕ, _+_, _-_, _≤_, _<_}
+use Prim.Native.Nat.{ℕ, _+_, _-_, _*_, _≤_, _<_}
 use mathlib.Core.Path.{_≡_, refl, _∙_}
 use native.Mathlib.Omega.{arith}
 use borrow.Author.Count.{below-none}
@@ -6,7 +6,7 @@ use borrow.Author.Needs.{needs}
 use lib.ListN.{length, getD, length-set}
 use Rattle.light.specs.Looks.{placed}
 use Rattle.lists.proofs.Mapping.{entry-next}
-use Rattle.light.proofs.Entries.{entry-made}
+use Rattle.light.proofs.Entries.{entry-fits, entry-made}
 use Rattle.light.proofs.tables.channel_table.Statement.{statement}
 use Rattle.light.proofs.tables.channel_table.Tie as tie
 
@@ -31,11 +31,20 @@ cast-at c = search needs
 scale-value-requires : tie.Need-scale-value-requires Inv-loop μ-loop
 scale-value-requires c κs = search needs
 
-shift-requires : tie.Need-shift-requires Inv-loop μ-loop
-shift-requires c κs = search needs
+-- What is stored fits 16 bits, and so 64.
+fits : (c : tie.After-scale-value Inv-loop μ-loop) → c .scale-value .result * c .before .before .before .before .before .args .times < 65536
+fits c =
+    let start = c .before .before .before .before .before in
+    entry-fits (start .args .times) (c .scale-value .ensures .1) (omega (arith, c .before .wide16 .ensures .0, c .before .before .on-glass .ensures .1)) (start .pre .1)
 
 mul-table : tie.Need-mul-table Inv-loop μ-loop
-mul-table c = search needs
+mul-table c = omega (arith, fits c)
+
+cast-table : tie.Need-cast-table Inv-loop μ-loop
+cast-table c = omega (arith, fits c)
+
+mul-table-2 : tie.Need-mul-table-2 Inv-loop μ-loop
+mul-table-2 c = search needs
 
 array-write-table : tie.Need-array-write-table Inv-loop μ-loop
 array-write-table c = search needs
@@ -48,10 +57,10 @@ loop-less c = search needs
 
 loop-again : tie.Need-loop-again Inv-loop μ-loop
 loop-again c =
-    let u = c .before .before .before .before .before .loop in
-    let a = c .before .before .before .before .before .before .args in
-    let e = entry-made (a .light) (a .most) (a .times) (u .k) (c .before .before .before .on-glass .ensures .0) (c .before .before .wide16 .ensures .0) (c .before .scale-value .ensures .0) (c .shift .ensures) in
-    (omega arith, (length-set (u .table) (u .k) _ ∙ u .inv .1 .0, entry-next _ (u .table) (u .k) _ (omega (arith, u .inv .1 .0, c .before .before .before .before .before .before .pre .0)) (u .inv .1 .1) e))
+    let u = c .before .before .before .before .loop in
+    let start = c .before .before .before .before .before in
+    let e = entry-made (start .args .light) (start .args .most) (start .args .times) (u .k) (c .before .before .on-glass .ensures .0) (c .before .wide16 .ensures .0) (c .scale-value .ensures .0) in
+    (omega arith, (length-set (u .table) (u .k) _ ∙ u .inv .1 .0, entry-next _ (u .table) (u .k) _ (omega (arith, u .inv .1 .0, start .pre .0)) (u .inv .1 .1) e))
 
 returns : tie.Need-returns Inv-loop μ-loop
 returns c = λ j h. c .before .loop .inv .1 .1 j (omega arith)
@@ -67,8 +76,9 @@ channel-table-spec =
     wide16-requires
     cast-at
     scale-value-requires
-    shift-requires
     mul-table
+    cast-table
+    mul-table-2
     array-write-table
     add-k
     loop-less

@@ -5,7 +5,7 @@ use std::collections::{BTreeMap, BTreeSet};
 use pemu_core::time::VTime;
 
 use crate::refusals::{bad_clauses, high_counts};
-use crate::report::{RULES, line};
+use crate::report::{RULES, above_full, line};
 use crate::st7789::reach::{Fates, fates, hidden};
 use crate::st7789::{MAX_PARAMS, STORED_COMMANDS, St7789p3, TRACE_LIMIT};
 
@@ -30,10 +30,9 @@ pub struct Coverage {
     /// Data segments of a run that leave a byte waiting, and those that find one waiting.
     left_waiting: u64,
     found_waiting: u64,
-    /// Looks at Perceived of a lit panel that were answered: with the level at most the scale, and
-    /// with the level above it.
+    /// Looks at Perceived of a lit panel that were answered: not above full brightness, and above it.
     perceived: [u64; 2],
-    /// Whether the line that runs is such a look, and with the level above the scale.
+    /// Whether the line that runs is such a look, and above full.
     looks_above: Option<bool>,
     /// What of the model was met, by name; only where `names` is set, since it takes time.
     names: bool,
@@ -70,8 +69,7 @@ impl Coverage {
             [b"view" | b"pixels" | b"pixel", b"perceived", ..] | [b"dump"] => panel.lit(),
             _ => false,
         };
-        let pair = panel.brightness();
-        self.looks_above = looks.then_some(pair.level() > pair.scale());
+        self.looks_above = looks.then_some(above_full(panel));
         if !self.names {
             return;
         }
@@ -374,7 +372,7 @@ impl Coverage {
         line(
             &mut out,
             format_args!(
-                "looks at Perceived, lit: {up_to} with level at most scale, {above} above it (Q-1: \
+                "looks at Perceived, lit: {up_to} at the pair as it stands, {above} above full (Q-1: \
                  the Rust at scale over scale)"
             ),
         );

@@ -63,15 +63,19 @@ pub fn replay_lines(panel: &St7789p3, out: &mut String) {
 /// Set where the Rust is run as it is, without the table of refusals and without Q-1's limit.
 pub static UNGUARDED: AtomicBool = AtomicBool::new(false);
 
-/// A look at the panel as Q-1 has it dimmed. Up to the scale the level is what it is; above, it counts
-/// as the scale, and the Rust looks at scale over scale.
+/// True where Q-1 parts from the Rust: the level is above the scale, which is not 0.
+pub fn above_full(panel: &St7789p3) -> bool {
+    let given = panel.brightness();
+    given.scale() != 0 && given.level() > given.scale()
+}
+
+/// A look at the panel as Q-1 has it dimmed: above full the Rust looks at scale over scale, and else at
+/// the pair as it stands.
 pub fn at_most_full<T>(panel: &mut St7789p3, look: impl FnOnce(&St7789p3) -> T) -> T {
     let given = panel.brightness();
-    if UNGUARDED.load(Ordering::Relaxed) {
-        return look(panel);
+    if above_full(panel) && !UNGUARDED.load(Ordering::Relaxed) {
+        *fields(panel).brightness = pair(given.scale(), given.scale());
     }
-    let level = given.level().min(given.scale());
-    *fields(panel).brightness = pair(level, given.scale());
     let seen = look(panel);
     *fields(panel).brightness = given;
     seen

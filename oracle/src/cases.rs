@@ -22,7 +22,8 @@ pub struct Case {
 }
 
 impl Case {
-    /// Case `number` of a seed: every fifth a log, else a script with a dump after every publish.
+    /// Case `number` of a seed: every fifth a log, else a script with a dump after every publish, or
+    /// one of many publishes with looks at rows.
     pub fn of(seed: u64, number: u64) -> Case {
         let own = case_seed(seed, number);
         if number % 5 == 4 {
@@ -31,15 +32,16 @@ impl Case {
                 input: gen_logs::log_of(own, 25),
             };
         }
-        // One script in twenty-four is long, and one looks at many brightness pairs.
-        let text = match number % 24 {
-            0 => gen_scripts::script_of(own, 14),
-            12 => gen_scripts::dimming_of(own),
-            _ => gen_scripts::script_of(own, 2),
+        // Of 24 scripts one is long, one looks at many brightness pairs, one publishes many times.
+        let input = match number % 24 {
+            0 => with_dumps(&gen_scripts::script_of(own, 14)),
+            6 => gen_scripts::publishing_of(own).into_bytes(),
+            12 => with_dumps(&gen_scripts::dimming_of(own)),
+            _ => with_dumps(&gen_scripts::script_of(own, 2)),
         };
         Case {
             kind: Kind::Script,
-            input: with_dumps(text.as_bytes()),
+            input,
         }
     }
 
@@ -84,9 +86,9 @@ impl Case {
 }
 
 /// A script with a dump after each line that is `publish`.
-fn with_dumps(script: &[u8]) -> Vec<u8> {
+fn with_dumps(script: &str) -> Vec<u8> {
     let mut text = Vec::new();
-    for line in script.split_inclusive(|byte| *byte == b'\n') {
+    for line in script.as_bytes().split_inclusive(|byte| *byte == b'\n') {
         text.extend_from_slice(line);
         let words = line.split(|byte| *byte == b'#').next().unwrap_or_default();
         if words.trim_ascii() == b"publish" && !words.contains(&b'\t') {

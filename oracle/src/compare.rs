@@ -13,13 +13,14 @@ use crate::report::{bit, line};
 
 pub const USAGE: &str = "\
 oracle compare SEED CASES [THREADS]
-Makes CASES cases from SEED (every fifth a log, the others scripts with a dump after every publish),
-runs each through the Rust and through panel_script or panel_replay, compares all they write to
-standard output, and prints what was covered and the number of differences. Stops handing out cases at
-the first difference: that case is cut down to what still differs, printed and kept in target/compare.
-Some 30 scripts at a time go to panel_script in one run, with lines between them that bring all back
-to the beginning; logs, and scripts with a bad line, go alone. PANEL_SCRIPT and PANEL_REPLAY name
-other programs than those in target/bin, PANEL_RUN an emulator with its words. THREADS: 2 if not given.
+Makes CASES cases from SEED (every fifth a log, the others scripts, most of them with a dump after
+every publish), runs each through the Rust and through panel_script or panel_replay, compares all
+they write to standard output, and prints what was covered and the number of differences. Stops
+handing out cases at the first difference: that case is cut down to what still differs, printed and
+kept in target/compare. Some 30 scripts at a time go to panel_script in one run, with lines between
+them that bring all back to the beginning; logs, and scripts with a bad line, go alone. PANEL_SCRIPT
+and PANEL_REPLAY name other programs than those in target/bin, PANEL_RUN an emulator with its words.
+THREADS: 2 if not given.
 ";
 
 const COVER_USAGE: &str = "\

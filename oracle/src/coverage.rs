@@ -34,6 +34,8 @@ pub struct Coverage {
     perceived: [u64; 2],
     /// Whether the line that runs is such a look, and above full.
     looks_above: Option<bool>,
+    /// Publishes that copied one row, more, and all 320.
+    published: [u64; 3],
     /// What of the model was met, by name; only where `names` is set, since it takes time.
     names: bool,
     pub met: BTreeSet<String>,
@@ -129,6 +131,9 @@ impl Coverage {
             self.refused(&name, number);
             return;
         }
+        if name == "publish" {
+            self.count_rows(printed);
+        }
         if !self.names {
             return;
         }
@@ -157,6 +162,20 @@ impl Coverage {
             }
         }
         self.met.insert(format!("{name} {detail}"));
+    }
+
+    /// Counts a publish by how many rows it copied.
+    fn count_rows(&mut self, printed: &str) {
+        let mut words = printed.split(' ').skip(1);
+        let mut row = || words.next().and_then(|word| word.parse::<u64>().ok());
+        if let (Some(first), Some(last)) = (row(), row()) {
+            let of = match last + 1 - first {
+                1 => 0,
+                320 => 2,
+                _ => 1,
+            };
+            self.published[of] += 1;
+        }
     }
 
     /// What the answer of `pixels` shows: of which view, with how many rows, with which runs.
@@ -295,6 +314,9 @@ impl Coverage {
         for (of, count) in other.perceived.iter().enumerate() {
             self.perceived[of] += count;
         }
+        for (of, count) in other.published.iter().enumerate() {
+            self.published[of] += count;
+        }
         self.pixels.stored += other.pixels.stored;
         self.pixels.inverted += other.pixels.inverted;
         self.pixels.unmapped += other.pixels.unmapped;
@@ -374,6 +396,13 @@ impl Coverage {
             format_args!(
                 "looks at Perceived, lit: {up_to} at the pair as it stands, {above} above full (Q-1: \
                  the Rust at scale over scale)"
+            ),
+        );
+        let [one, more, all] = self.published;
+        line(
+            &mut out,
+            format_args!(
+                "publishes that copied: {one} one row, {more} 2 to 319 rows, {all} all 320"
             ),
         );
         out

@@ -182,6 +182,50 @@ fn pair_of(random: &mut Random) -> (u64, u64) {
     }
 }
 
+/// A script of many publishes, each into a frame of one colour, with the frame's rows looked at
+/// where the copied rows begin and end. The panel's rows are of any colours, and so are the first
+/// and the last pixel of each.
+pub fn publishing_of(seed: u64) -> String {
+    let random = &mut Random::new(seed);
+    let mut writer = Writer {
+        lines: Vec::new(),
+        pixels: 9,
+    };
+    writer.line("transfer 0 0 0 2c");
+    for rows in [136, 136, 48] {
+        let colour = |random: &mut Random| random.below(65_536);
+        let row = |random: &mut Random| {
+            let (first, middle, last) = (colour(random), colour(random), colour(random));
+            format!("{first:04x},{middle:04x}*238,{last:04x}")
+        };
+        let rows: Vec<String> = (0..rows).map(|_| row(random)).collect();
+        writer.line(format!("transfer 0 1 0 {}", rows.join(",")));
+    }
+    for _ in 0..320 {
+        let (first, last) = span_of(random);
+        writer.line(format!("set frame {:04x}", random.below(65_536)));
+        writer.line(format!("set dirty {first} {last}"));
+        writer.line("publish");
+        let any = random.below(320);
+        for row in [first.saturating_sub(1), first, last, last + 1, any] {
+            writer.line(format!("row frame {row}"));
+        }
+    }
+    writer.text(random)
+}
+
+/// The first and the last row of a span: one row, all, from the top, to the bottom, or any.
+fn span_of(random: &mut Random) -> (u64, u64) {
+    let (a, b) = (random.below(320), random.below(320));
+    match random.below(6) {
+        0 => (a, a),
+        1 => (0, 319),
+        2 => (0, b),
+        3 => (a, 319),
+        _ => (a.min(b), a.max(b)),
+    }
+}
+
 struct Writer {
     lines: Vec<String>,
     /// Of so many whole views one is shown by its pixels: fewer in long scripts.

@@ -11,24 +11,13 @@ use crate::glass::on_glass;
 use crate::tables::channel_table;
 use crate::tables::dim_by;
 
-fn copy(from: &[u16], to: &mut [u16])
-    requires { ⌜ length (now to) ≡ length (now from) ⌝ }
-    ensures { λ r. ⌜ now (to .exit) ≡ now (from .entry) ⌝ }
-{
-    let mut i = 0;
-    while i < from.len() {
-        to[i] = from[i];
-        i += 1;
-    }
-}
-
 // What is seen as it stands is copied.
 fn fill_glass(light: Light, from: &[u16], to: &mut [u16])
     requires { ⌜ length (now to) ≡ length (now from) ⌝ }
     ensures { λ r. ⌜ now (to .exit) ≡ map (glassOf light) (now (from .entry)) ⌝ }
 {
     if light.lit & light.plain {
-        copy(from, to);
+        lists::copy(from, to);
         return;
     }
     let mut i = 0;

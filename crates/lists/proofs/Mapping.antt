@@ -5,8 +5,10 @@ use mathlib.Core.List.{List, [], _∷_, map}
 use native.Mathlib.Nat.{not-suc-le-zero, le-of-suc-le-suc}
 use native.Mathlib.Omega.{arith}
 use borrow.Author.Count.{below-more}
+use borrow.Author.Tests.{eq-eqb, ne-eqb}
 use lib.ListN.{length, getD, set, length-set, length-map}
 use lib.Seq.{getD-set-same, getD-set-other, ext-getD}
+use Rattle.lists.specs.Copying.{overwritten}
 
 pub at-index : (f : ℕ → ℕ) (l : List ℕ) (k : ℕ) → k < length l → getD (map f l) k 0 ≡ f (getD l k 0)
 at-index f [] k h = absurd (not-suc-le-zero h)
@@ -52,6 +54,14 @@ mapped-same {from} u h = mapped-last u h ∙ same-numbers from
     same-numbers : (l : List ℕ) → map (λ n. n) l ≡ l
     same-numbers [] = refl
     same-numbers (x ∷ l) = ap (λ m. x ∷ m) (same-numbers l)
+
+-- One list over another, as long or not.
+module _ (from to : List ℕ) where
+  pub over-alike : length to ≡ length from → overwritten from to ≡ from
+  over-alike h = rw (eq-eqb (length to) (length from) h)
+
+  pub over-other : (length to ≡ length from → ⊥) → overwritten from to ≡ to
+  over-other h = rw (ne-eqb (length to) (length from) h)
 
 -- Two ways to make the entries that agree make the same list.
 pub map-same : (f g : ℕ → ℕ) → ((v : ℕ) → f v ≡ g v) → (l : List ℕ) → map f l ≡ map g l

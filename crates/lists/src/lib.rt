@@ -1,9 +1,12 @@
-// Fixed lists and their entries: a command's parameters, the stored commands, the trace and the warnings.
+// Fixed lists and their entries: a command's parameters, the stored commands, the trace and the warnings; and one list copied over another.
 ghost use mathlib.Core.Path.{_≡_};
 ghost use Prim.Native.Nat.{_+_, _-_, min};
 ghost use lib.Dec.{ltb, eqb};
 ghost use Rattle.lists.specs.Entries.{some, storedLong, placeOf};
 ghost use Rattle.lists.specs.Params.{noParams, filled, excess, differ};
+pub use copying::copy;
+
+mod copying;
 
 pub const MAX_PARAMS: u8 = 14;
 

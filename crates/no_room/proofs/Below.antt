@@ -37,6 +37,7 @@ use Rattle.lists.proofs.is_latest as is-latest
 use Rattle.lists.proofs.over as over
 use Rattle.lists.proofs.stored_long as stored-long
 use Rattle.lists.proofs.stored_place as stored-place
+use Rattle.lists.proofs.copy as copy
 use Rattle.timing.proofs.lint as lint
 use Rattle.timing.proofs.Broken.count as count
 use Rattle.timing.proofs.Broken.rule as rule
@@ -169,6 +170,9 @@ stored-long-one κs args x y u v p q = (same p q, refl)
 
 pub stored-place-one : Only stored-place.ended stored-place.Reads.Learnt
 stored-place-one κs args x y u v p q = (same p q, refl)
+
+pub copy-one : Only copy.ended copy.Reads.Learnt
+copy-one κs args x y u v p q = (refl, λ i. (tt, (same p q i, tt)))
 
 pub lint-one : Only lint.ended lint.Reads.Learnt
 lint-one κs args x y u v p q = (same p q, refl)

@@ -15,15 +15,10 @@ use Rattle.marks.specs.declared.Marks.{Marks}
 use Rattle.marks.proofs.Laws.{marked-span, bad-span}
 use Rattle.st7789.specs.declared.St7789p3.{St7789p3}
 use Rattle.publishing.specs.Publish.{copied, spanCopied, published}
-use Rattle.publishing.proofs.Copies.{upTo, before, between, after}
+use Rattle.publishing.proofs.Copies.{stretch, copied-stretch, before, between, after}
 use Rattle.publishing.proofs.Refusing.{span-rows, remarked}
 
 module _ (memory frame : List ℕ) (m : length memory ≡ 76800) (f : length frame ≡ 76800) where
-  copied-upTo : (first last : ℕ) → first ≤ last → copied first last memory frame ≡ upTo (first * 240) ((last + 1 - first) * 240) memory frame
-  copied-upTo first last h =
-      let e : (last + 1) * 240 ≡ first * 240 + (last + 1 - first) * 240 = omega arith in
-      ap (λ k. take (first * 240) frame ++ (take ((last + 1 - first) * 240) (drop (first * 240) memory) ++ drop k frame)) e
-
   -- A row of first to last is memory's, any other the frame's own.
   module _ (first last : ℕ) (up : first ≤ last) (inside : last < 320) (row column : ℕ) (h : column < 240) where
     room : first * 240 + (last + 1 - first) * 240 ≤ 76800
@@ -31,7 +26,7 @@ module _ (memory frame : List ℕ) (m : length memory ≡ 76800) (f : length fra
 
     by-tests :
         (a b : Bool) → leb first row ≡ a → leb row last ≡ b →
-        getD (upTo (first * 240) ((last + 1 - first) * 240) memory frame) (row * 240 + column) 0 ≡
+        getD (stretch (first * 240) ((last + 1 - first) * 240) memory frame) (row * 240 + column) 0 ≡
         cond (a && b) (getD memory (row * 240 + column) 0) (getD frame (row * 240 + column) 0)
     by-tests true true p q =
         between (first * 240) ((last + 1 - first) * 240) memory frame m f room (row * 240 + column) (omega (arith, leb-true first row p, h))
@@ -44,7 +39,7 @@ module _ (memory frame : List ℕ) (m : length memory ≡ 76800) (f : length fra
     row-copied :
         getD (copied first last memory frame) (row * 240 + column) 0 ≡
         cond (inSpan row (Rows first last)) (getD memory (row * 240 + column) 0) (getD frame (row * 240 + column) 0)
-    row-copied = ap (λ l. getD l (row * 240 + column) 0) (copied-upTo first last up) ∙ by-tests (leb first row) (leb row last) refl refl
+    row-copied = ap (λ l. getD l (row * 240 + column) 0) (copied-stretch first last memory frame up) ∙ by-tests (leb first row) (leb row last) refl refl
 
   length-spanned : (span : Span) → spanBad span ≡ false → length (spanCopied span memory frame) ≡ 76800
   length-spanned Nothing b = f

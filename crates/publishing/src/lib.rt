@@ -1,4 +1,4 @@
-// Publishing: the rows of the span copied to the frame, one row at a time, and the flags beside them.
+// Publishing: the rows of the span copied to the frame, as one stretch, and the flags beside them.
 ghost use mathlib.Core.Path.{_≡_};
 ghost use Prim.Native.Nat.{ℕ, _+_, _*_, _≤_, _<_};
 ghost use lib.ListN.{length};
@@ -37,29 +37,15 @@ fn wide(row: u16) -> usize
     row as usize
 }
 
-fn copy_row(from: &[u16], to: &mut [u16])
-    requires { ⌜ length (now to) ≡ length (now from) ⌝ }
-    ensures { λ r. ⌜ now (to .exit) ≡ now (from .entry) ⌝ }
-{
-    let mut i = 0;
-    while i < from.len() {
-        to[i] = from[i];
-        i += 1;
-    }
-}
-
+// Rows first to last lie side by side in both memories: one part of each, copied at once.
 fn copy_rows(first: usize, last: usize, memory: &[u16], frame: &mut [u16])
     requires { ⌜ (first ≤ last) × (last < 320) ⌝ }
     requires { ⌜ (length (now memory) ≡ 76800) × (length (now frame) ≡ 76800) ⌝ }
     ensures { λ r. ⌜ now (frame .exit) ≡ copied first last (now (memory .entry)) (now (frame .entry)) ⌝ }
 {
-    let mut row = first;
-    while row <= last {
-        let start = row * 240;
-        let end = start + 240;
-        copy_row(&memory[start..end], &mut frame[start..end]);
-        row += 1;
-    }
+    let start = first * 240;
+    let end = last * 240 + 240;
+    lists::copy(&memory[start..end], &mut frame[start..end]);
 }
 
 fn copy_span(span: Span, memory: &[u16], frame: &mut [u16])

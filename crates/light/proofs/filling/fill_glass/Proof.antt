@@ -1,5 +1,5 @@
 use Rattle.light.specs.Light.{glassOf}
-use Rattle.lists.proofs.Mapping.{Mapped, mapped-first, mapped-next, mapped-last}
+use Rattle.lists.proofs.Mapping.{Mapped, mapped-first, mapped-next, mapped-last, over-alike}
 use Rattle.light.proofs.Looking.{as-it-stands}
 use borrow.Author.Needs.{needs}
 use native.Mathlib.Omega.{arith}
@@ -22,7 +22,7 @@ same-length : tie.Need-same-length Inv-loop μ-loop
 same-length c = search needs
 
 returns : tie.Need-returns Inv-loop μ-loop
-returns c = let a = c .before .before .before .before .before .before .before .before .args in c .before .before .copy .ensures ∙ as-it-stands (a .light) (a .from .now) (c .before .before .before .before .if1 .taken)
+returns c = let a = c .before .before .before .before .before .before .before .before .args in c .before .before .copy .ensures ∙ over-alike (a .from .now) (a .to .now) (c .before .before .before .before .before .before .before .before .pre) ∙ as-it-stands (a .light) (a .from .now) (c .before .before .before .before .if1 .taken)
 
 loop-holds : tie.Need-loop-holds Inv-loop μ-loop
 loop-holds c = mapped-first (c .before .before .before .before .pre)

@@ -3,9 +3,9 @@ use mathlib.Core.Path.{refl, sym, _∙_}
 use lib.ListN.{length}
 use native.Mathlib.Omega.{arith}
 use borrow.Author.Needs.{needs}
-use Rattle.lists.proofs.Mapping.{Mapped, mapped-first, mapped-next, mapped-same}
-use Rattle.light.proofs.filling.copy.Statement.{statement}
-use Rattle.light.proofs.filling.copy.Tie as tie
+use Rattle.lists.proofs.Mapping.{Mapped, mapped-first, mapped-next, mapped-same, over-alike, over-other}
+use Rattle.lists.proofs.copying.copy.Statement.{statement}
+use Rattle.lists.proofs.copying.copy.Tie as tie
 
 abbrev Inv-loop : tie.InvT-loop
 Inv-loop from to₀ i₀ to i = Mapped (λ n. n) from to i
@@ -13,8 +13,14 @@ Inv-loop from to₀ i₀ to i = Mapped (λ n. n) from to i
 abbrev μ-loop : tie.MeasureT-loop
 μ-loop from to₀ i₀ to i = length from - i
 
+loop-again : tie.Need-loop-again Inv-loop μ-loop
+loop-again c = mapped-next (c .before .before .loop .inv) (c .before .loop-test .taken) refl
+
+returns : tie.Need-returns Inv-loop μ-loop
+returns c = let a = c .before .args in sym (over-other (a .from .now) (a .to .now) (c .if1 .taken))
+
 loop-holds : tie.Need-loop-holds Inv-loop μ-loop
-loop-holds c = mapped-first (c .pre)
+loop-holds c = mapped-first (c .if1 .left)
 
 mul-to : tie.Need-mul-to Inv-loop μ-loop
 mul-to c = search needs
@@ -34,14 +40,13 @@ add-i c = search needs
 loop-less : tie.Need-loop-less Inv-loop μ-loop
 loop-less c = search needs
 
-loop-again : tie.Need-loop-again Inv-loop μ-loop
-loop-again c = mapped-next (c .before .before .loop .inv) (c .before .loop-test .taken) refl
-
 same-length : tie.Need-same-length Inv-loop μ-loop
-same-length c = c .before .loop .inv .long ∙ sym (c .before .before .pre)
+same-length c = c .before .loop .inv .long ∙ sym (c .before .before .if1 .left)
 
-returns : tie.Need-returns Inv-loop μ-loop
-returns c = mapped-same (c .before .loop .inv) (c .loop-test .left)
+returns-2 : tie.Need-returns-2 Inv-loop μ-loop
+returns-2 c =
+    let a = c .before .before .before .args in
+    mapped-same (c .before .loop .inv) (c .loop-test .left) ∙ sym (over-alike (a .from .now) (a .to .now) (c .before .before .if1 .left))
 
 pub copy-spec : {M : Type 1} → statement M
 copy-spec =
@@ -49,6 +54,7 @@ copy-spec =
     (tie.spec
     Inv-loop
     μ-loop
+    returns
     loop-holds
     mul-to
     shared-slice-read-to
@@ -58,4 +64,4 @@ copy-spec =
     loop-less
     loop-again
     same-length
-    returns)
+    returns-2)

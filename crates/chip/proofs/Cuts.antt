@@ -5,15 +5,20 @@ use mathlib.Core.Bool.{Bool, true, false, not, cond, _&&_, _||_}
 use mathlib.Core.List.{List, _++_}
 use native.Mathlib.Omega.{arith}
 use borrow.Author.Tests.{leb-true, le-leb, eqb-true}
-use lib.Dec.{eqb, ltb, leb}
+use lib.Dec.{ltb, leb}
 use Rattle.geometry.specs.Place.{largestColumn, largestRow}
 use Rattle.geometry.specs.declared.Window.{Window}
+use Rattle.codes.specs.Codes.{kindOf, needOf, commandOf, kindNumber, is}
+use Rattle.codes.specs.declared.Kind.{Kind}
+use Rattle.codes.specs.declared.Kind.the-variants.{Caset, Raset, Madctl, Colmod, Ramctrl}
+use Rattle.codes.specs.declared.Command.{Command}
+use Rattle.codes.proofs.Bytes.{needFor, need-for}
 use Rattle.lists.specs.Params.{filled}
 use Rattle.lists.specs.declared.Params.{Params}
 use Rattle.lists.proofs.Bools.{both}
 use Rattle.lists.proofs.Filling.{count-filled}
 use Rattle.lists.proofs.Cuts.{filled-cut, filled-keeps}
-use Rattle.chip.specs.Apply.{need, due, byteAt, numberAt, windowApplied, registersApplied, chipFilled, chipApplied, appliedIfDue, chipTaken}
+use Rattle.chip.specs.Apply.{due, byteAt, numberAt, windowApplied, registersApplied, chipFilled, chipApplied, appliedIfDue, chipTaken}
 use Rattle.chip.specs.declared.Registers.{Registers}
 use Rattle.chip.specs.declared.Decoder.{Decoder}
 use Rattle.chip.specs.declared.Chip.{Chip}
@@ -36,12 +41,12 @@ registersBy q r y first second g =
     }
 
 -- What a command applies is told by its first bytes: lists that agree in those of p, which are enough, apply the same.
-module _ (c : ℕ) (p p′ : Params) (agree : (i : ℕ) → i < p .count → byteAt p′ i ≡ byteAt p i) (enough : need c ≤ p .count) where
+module _ (k : Kind) (p p′ : Params) (agree : (i : ℕ) → i < p .count → byteAt p′ i ≡ byteAt p i) (enough : needFor k ≤ p .count) where
   number-agrees : (i : ℕ) → i + 1 < p .count → numberAt p′ i ≡ numberAt p i
   number-agrees i h = ap₂ (λ m n. m * 256 + n) (agree i (omega arith)) (agree (i + 1) h)
 
-  pub window-agrees : (madctl : ℕ) (w : Window) → windowApplied c p′ madctl w ≡ windowApplied c p madctl w
-  window-agrees madctl w = go (eqb c 0x2A) (eqb c 0x2B) (eqb c 0x36 || eqb c 0x3A) (eqb c 0xB0) enough
+  pub window-agrees : (madctl : ℕ) (w : Window) → windowApplied k p′ madctl w ≡ windowApplied k p madctl w
+  window-agrees madctl w = go (is k Caset) (is k Raset) (is k Madctl || is k Colmod) (is k Ramctrl) enough
     where
       four :
           (q r : Bool) → 4 ≤ p .count →
@@ -55,8 +60,8 @@ module _ (c : ℕ) (p p′ : Params) (agree : (i : ℕ) → i < p .count → byt
       go false true x y h = four false true h
       go false false x y h = refl
 
-  pub registers-agree : (g : Registers) → registersApplied c p′ g ≡ registersApplied c p g
-  registers-agree g = go (eqb c 0x2A || eqb c 0x2B) (eqb c 0x36) (eqb c 0x3A) (eqb c 0xB0) refl refl refl enough
+  pub registers-agree : (g : Registers) → registersApplied k p′ g ≡ registersApplied k p g
+  registers-agree g = go (is k Caset || is k Raset) (is k Madctl) (is k Colmod) (is k Ramctrl) refl refl refl enough
     where
       Agree : Bool → Bool → Bool → Type 0
       Agree q r y =
@@ -68,52 +73,57 @@ module _ (c : ℕ) (p p′ : Params) (agree : (i : ℕ) → i < p .count → byt
       one : (q r : Bool) → 1 ≤ p .count → Agree q r false
       one q r h = ap (λ m. registersBy q r false m (byteAt p 1) g) (agree 0 (omega arith))
 
-      never : (k : ℕ) → (k < 0x40) → eqb c k ≡ true → eqb c 0xB0 ≡ true → ⊥
-      never k h e f = let i = eqb-true c k e in let j = eqb-true c 0xB0 f in omega arith
+      never : (j : Kind) → kindNumber j < kindNumber Ramctrl → is k j ≡ true → is k Ramctrl ≡ true → ⊥
+      never j h e f =
+          let a = eqb-true (kindNumber k) (kindNumber j) e in
+          let b = eqb-true (kindNumber k) (kindNumber Ramctrl) f in
+          omega arith
 
       go :
-          (x q r y : Bool) → eqb c 0x36 ≡ q → eqb c 0x3A ≡ r → eqb c 0xB0 ≡ y → cond x 4 (cond (q || r) 1 (cond y 2 0)) ≤ p .count →
+          (x q r y : Bool) → is k Madctl ≡ q → is k Colmod ≡ r → is k Ramctrl ≡ y → cond x 4 (cond (q || r) 1 (cond y 2 0)) ≤ p .count →
           Agree q r y
       go true q r y e f i h = two q r y (omega arith)
-      go false true r true e f i h = absurd (never 0x36 (omega arith) e i)
+      go false true r true e f i h = absurd (never Madctl (omega arith) e i)
       go false true r false e f i h = one true r h
-      go false false true true e f i h = absurd (never 0x3A (omega arith) f i)
+      go false false true true e f i h = absurd (never Colmod (omega arith) f i)
       go false false true false e f i h = one false true h
       go false false false true e f i h = two false false true h
       go false false false false e f i h = refl
 
 -- A command that is due has enough.
-due-both : (c : ℕ) (d : Decoder) → due c d ≡ true → (not (d .applied) ≡ true) × ((ltb 0 (need c) ≡ true) × (need c ≤ d .params .count))
-due-both c d e =
-    let t = both (not (d .applied)) (ltb 0 (need c) && leb (need c) (d .params .count)) e in
-    let k = both (ltb 0 (need c)) (leb (need c) (d .params .count)) (t .1) in
-    (t .0, (k .0, leb-true (need c) (d .params .count) (k .1)))
+due-both : (n : ℕ) (d : Decoder) → due n d ≡ true → (not (d .applied) ≡ true) × ((ltb 0 n ≡ true) × (n ≤ d .params .count))
+due-both n d e =
+    let t = both (not (d .applied)) (ltb 0 n && leb n (d .params .count)) e in
+    let k = both (ltb 0 n) (leb n (d .params .count)) (t .1) in
+    (t .0, (k .0, leb-true n (d .params .count) (k .1)))
 
-pub due-enough : (c : ℕ) (d : Decoder) → due c d ≡ true → need c ≤ d .params .count
-due-enough c d e = due-both c d e .1 .1
+pub due-enough : (c : ℕ) (d : Decoder) → due (needOf c) d ≡ true → needFor (kindOf c) ≤ d .params .count
+due-enough c d e = rw (← need-for c) (due-both (needOf c) d e .1 .1)
 
-apply-late : (c : ℕ) (b : List ℕ) (s : Chip) → appliedIfDue c (chipFilled b (appliedIfDue c s)) ≡ appliedIfDue c (chipFilled b s)
+apply-late :
+    (c : ℕ) (b : List ℕ) (s : Chip) →
+    appliedIfDue (commandOf c) (chipFilled b (appliedIfDue (commandOf c) s)) ≡ appliedIfDue (commandOf c) (chipFilled b s)
 unfolding appliedIfDue
-apply-late c b s = go (due c (s .decoder)) refl
+apply-late c b s = go (due (needOf c) (s .decoder)) refl
   where
-    grown : need c ≤ s .decoder .params .count → leb (need c) (filled (s .decoder .params) b .count) ≡ true
-    grown h = le-leb (need c) (filled (s .decoder .params) b .count) (rw (count-filled (s .decoder .params) b) (omega arith))
+    grown : needOf c ≤ s .decoder .params .count → leb (needOf c) (filled (s .decoder .params) b .count) ≡ true
+    grown h = le-leb (needOf c) (filled (s .decoder .params) b .count) (rw (count-filled (s .decoder .params) b) (omega arith))
 
     go :
-        (t : Bool) → due c (s .decoder) ≡ t →
-        appliedIfDue c (chipFilled b (cond t (chipApplied c s) s)) ≡ appliedIfDue c (chipFilled b s)
+        (t : Bool) → due (needOf c) (s .decoder) ≡ t →
+        appliedIfDue (commandOf c) (chipFilled b (cond t (chipApplied (kindOf c) s) s)) ≡ appliedIfDue (commandOf c) (chipFilled b s)
     go false e = refl
     go true e =
         let p = s .decoder .params in
-        let d = due-both c (s .decoder) e in
-        let h : need c ≤ p .count = d .1 .1 in
-        let i : due c (chipFilled b s .decoder) ≡ true = ap₂ (λ x y. x && y) (d .0) (ap₂ (λ x y. x && y) (d .1 .0) (grown h)) in
-        rw (i, window-agrees c p (filled p b) (filled-keeps p b) h (s .registers .madctl) (s .window), registers-agree c p (filled p b) (filled-keeps p b) h (s .registers))
+        let d = due-both (needOf c) (s .decoder) e in
+        let h : needFor (kindOf c) ≤ p .count = due-enough c (s .decoder) e in
+        let i : due (needOf c) (chipFilled b s .decoder) ≡ true = ap₂ (λ x y. x && y) (d .0) (ap₂ (λ x y. x && y) (d .1 .0) (grown (d .1 .1))) in
+        rw (i, window-agrees (kindOf c) p (filled p b) (filled-keeps p b) h (s .registers .madctl) (s .window), registers-agree (kindOf c) p (filled p b) (filled-keeps p b) h (s .registers))
 
-pub chip-cut : (c : ℕ) (a b : List ℕ) (s : Chip) → chipTaken c (a ++ b) s ≡ chipTaken c b (chipTaken c a s)
+pub chip-cut : (c : ℕ) (a b : List ℕ) (s : Chip) → chipTaken (commandOf c) (a ++ b) s ≡ chipTaken (commandOf c) b (chipTaken (commandOf c) a s)
 unfolding chipTaken
 chip-cut c a b s =
-    ap (λ p. appliedIfDue c (withParams p)) (filled-cut (s .decoder .params) a b) ∙ sym (apply-late c b (chipFilled a s))
+    ap (λ p. appliedIfDue (commandOf c) (withParams p)) (filled-cut (s .decoder .params) a b) ∙ sym (apply-late c b (chipFilled a s))
   where
     withParams : Params → Chip
     withParams p =
@@ -127,14 +137,14 @@ chip-cut c a b s =
 
 -- Data for a command changes of the decoder only its parameters, and that it is applied.
 taken-decoder :
-    (c : ℕ) (bytes : List ℕ) (s : Chip) →
-    (chipTaken c bytes s .decoder .params ≡ filled (s .decoder .params) bytes) × (chipTaken c bytes s .decoder .cmd ≡ s .decoder .cmd)
-    × (chipTaken c bytes s .decoder .«in_pixels» ≡ s .decoder .«in_pixels»)
+    (m : Command) (bytes : List ℕ) (s : Chip) →
+    (chipTaken m bytes s .decoder .params ≡ filled (s .decoder .params) bytes) × (chipTaken m bytes s .decoder .cmd ≡ s .decoder .cmd)
+    × (chipTaken m bytes s .decoder .«in_pixels» ≡ s .decoder .«in_pixels»)
 unfolding chipTaken appliedIfDue
-taken-decoder c bytes s = go (due c (chipFilled bytes s .decoder))
+taken-decoder m bytes s = go (due (m .need) (chipFilled bytes s .decoder))
   where
     then : Bool → Chip
-    then t = cond t (chipApplied c (chipFilled bytes s)) (chipFilled bytes s)
+    then t = cond t (chipApplied (m .kind) (chipFilled bytes s)) (chipFilled bytes s)
 
     go :
         (t : Bool) →
@@ -143,11 +153,11 @@ taken-decoder c bytes s = go (due c (chipFilled bytes s .decoder))
     go true = (refl, refl, refl)
     go false = (refl, refl, refl)
 
-pub taken-params : (c : ℕ) (bytes : List ℕ) (s : Chip) → chipTaken c bytes s .decoder .params ≡ filled (s .decoder .params) bytes
-taken-params c bytes s = taken-decoder c bytes s .0
+pub taken-params : (m : Command) (bytes : List ℕ) (s : Chip) → chipTaken m bytes s .decoder .params ≡ filled (s .decoder .params) bytes
+taken-params m bytes s = taken-decoder m bytes s .0
 
-pub taken-cmd : (c : ℕ) (bytes : List ℕ) (s : Chip) → chipTaken c bytes s .decoder .cmd ≡ s .decoder .cmd
-taken-cmd c bytes s = taken-decoder c bytes s .1
+pub taken-cmd : (m : Command) (bytes : List ℕ) (s : Chip) → chipTaken m bytes s .decoder .cmd ≡ s .decoder .cmd
+taken-cmd m bytes s = taken-decoder m bytes s .1
 
-pub taken-run : (c : ℕ) (bytes : List ℕ) (s : Chip) → chipTaken c bytes s .decoder .«in_pixels» ≡ s .decoder .«in_pixels»
-taken-run c bytes s = taken-decoder c bytes s .2
+pub taken-run : (m : Command) (bytes : List ℕ) (s : Chip) → chipTaken m bytes s .decoder .«in_pixels» ≡ s .decoder .«in_pixels»
+taken-run m bytes s = taken-decoder m bytes s .2

@@ -10,6 +10,7 @@ use crate::walk::begun_walk;
 use crate::window::applied_window;
 use crate::window::begun_window;
 use crate::window::full_window;
+use codes::Command;
 use geometry::Pointer;
 use geometry::Site;
 use pixels::Carry;
@@ -57,19 +58,20 @@ impl Chip {
         }
     }
 
-    // Command c begins at time t.
-    pub fn begin(self, c: u8, t: u64) -> Chip
-        ensures answer { λ r. ⌜ r ≡ chipBegun c t self ⌝ }
+    // A command begins at time t.
+    pub fn begin(self, command: Command, t: u64) -> Chip
+        ensures answer { λ r. ⌜ r ≡ chipBegun command t self ⌝ }
     {
         let old = self.registers;
         let old_window = self.window;
         let old_walk = self.walk;
         let old_times = self.times;
-        let registers = old.begin(c);
-        let window = begun_window(c, old.madctl, old_window);
-        let walk = begun_walk(c, old_window, old_walk);
-        let decoder = Decoder::begun(c);
-        let times = old_times.after(c, t);
+        let kind = command.kind;
+        let registers = old.begin(kind);
+        let window = begun_window(kind, old.madctl, old_window);
+        let walk = begun_walk(kind, old_window, old_walk);
+        let decoder = Decoder::begun(command);
+        let times = old_times.after(kind, t);
         Chip {
             registers,
             window,
@@ -89,18 +91,19 @@ impl Chip {
         Chip { decoder, ..self }
     }
 
-    fn apply(self, c: u8) -> Chip
-        ensures { λ r. ⌜ r ≡ appliedIfDue c self ⌝ }
+    fn apply(self, command: Command) -> Chip
+        ensures { λ r. ⌜ r ≡ appliedIfDue command self ⌝ }
     {
         let old = self.decoder;
-        if !old.is_due(c) {
+        if !old.is_due(command.need) {
             return self;
         }
+        let kind = command.kind;
         let params = old.params;
         let old_registers = self.registers;
         let old_window = self.window;
-        let registers = old_registers.apply(c, params);
-        let window = applied_window(c, params, old_registers.madctl, old_window);
+        let registers = old_registers.apply(kind, params);
+        let window = applied_window(kind, params, old_registers.madctl, old_window);
         let decoder = Decoder {
             applied: true,
             ..old
@@ -113,12 +116,12 @@ impl Chip {
         }
     }
 
-    // Data for command c.
-    pub fn take(self, c: u8, bytes: &[u8]) -> Chip
-        ensures answer { λ r. ⌜ r ≡ chipTaken c (now (bytes .entry)) self ⌝ }
+    // Data for a command.
+    pub fn take(self, command: Command, bytes: &[u8]) -> Chip
+        ensures answer { λ r. ⌜ r ≡ chipTaken command (now (bytes .entry)) self ⌝ }
     {
         let filled = self.fill(bytes);
-        filled.apply(c)
+        filled.apply(command)
     }
 
     // CS goes high: nothing is in force, and the pointer stays.

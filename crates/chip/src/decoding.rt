@@ -2,9 +2,10 @@
 ghost use mathlib.Core.Path.{_≡_};
 ghost use Prim.Native.Nat.{_<_};
 ghost use Rattle.chip.specs.Begin.{idle, decoderBegun};
-ghost use Rattle.chip.specs.Apply.{need, due, byteAt};
+ghost use Rattle.chip.specs.Apply.{due, byteAt};
 use crate::Decoder;
 use crate::InForce;
+use codes::Command;
 use lists::Params;
 
 impl Decoder {
@@ -20,37 +21,24 @@ impl Decoder {
         }
     }
 
-    pub(crate) fn begun(c: u8) -> Decoder
-        ensures { λ r. ⌜ r ≡ decoderBegun c ⌝ }
+    pub(crate) fn begun(command: Command) -> Decoder
+        ensures { λ r. ⌜ r ≡ decoderBegun command ⌝ }
     {
+        let kind = command.kind;
         let params = Params::empty();
+        let in_pixels = kind.starts_run();
         Decoder {
-            cmd: InForce::Code(c),
+            cmd: InForce::Code(command.code),
             params,
             applied: false,
-            in_pixels: (c == 0x2C) | (c == 0x3C),
+            in_pixels,
         }
     }
 
-    pub(crate) fn is_due(self, c: u8) -> bool
-        ensures { λ r. ⌜ r ≡ due c self ⌝ }
+    pub(crate) fn is_due(self, need: u8) -> bool
+        ensures { λ r. ⌜ r ≡ due need self ⌝ }
     {
-        let n = needed(c);
-        !self.applied & ((0 < n) & (n <= self.params.count))
-    }
-}
-
-// How many parameters a command applies at, 0 for one that applies nothing.
-fn needed(c: u8) -> u8
-    ensures { λ r. ⌜ r ≡ need c ⌝ }
-{
-    match c {
-        0x2A => 4,
-        0x2B => 4,
-        0x36 => 1,
-        0x3A => 1,
-        0xB0 => 2,
-        _ => 0,
+        !self.applied & ((0 < need) & (need <= self.params.count))
     }
 }
 

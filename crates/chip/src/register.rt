@@ -4,65 +4,67 @@ ghost use Rattle.chip.specs.Begin.{registersBegun};
 ghost use Rattle.chip.specs.Apply.{registersApplied};
 use crate::Registers;
 use crate::decoding::byte_at;
+use codes::Kind;
 use lists::Params;
 
 impl Registers {
-    pub(crate) fn begin(mut self, c: u8) -> Registers
-        ensures { λ r. ⌜ r ≡ registersBegun c self ⌝ }
+    pub(crate) fn begin(mut self, kind: Kind) -> Registers
+        ensures { λ r. ⌜ r ≡ registersBegun kind self ⌝ }
     {
-        match c {
-            0x01 => Registers {
+        if !kind.has_effect() {
+            return self;
+        }
+        if kind.is(Kind::Swreset) {
+            return Registers {
                 sleeping: true,
                 display_on: false,
                 inverted: false,
                 ..self
-            },
-            0x10 => {
-                self.sleeping = true;
-                self
-            }
-            0x11 => {
-                self.sleeping = false;
-                self
-            }
-            0x20 => {
-                self.inverted = false;
-                self
-            }
-            0x21 => {
-                self.inverted = true;
-                self
-            }
-            0x28 => {
-                self.display_on = false;
-                self
-            }
-            0x29 => {
-                self.display_on = true;
-                self
-            }
-            _ => self,
+            };
         }
+        if kind.is(Kind::Slpin) {
+            self.sleeping = true;
+            return self;
+        }
+        if kind.is(Kind::Slpout) {
+            self.sleeping = false;
+            return self;
+        }
+        if kind.is(Kind::Invoff) {
+            self.inverted = false;
+            return self;
+        }
+        if kind.is(Kind::Invon) {
+            self.inverted = true;
+            return self;
+        }
+        if kind.is(Kind::Dispoff) {
+            self.display_on = false;
+            return self;
+        }
+        if kind.is(Kind::Dispon) {
+            self.display_on = true;
+            return self;
+        }
+        self
     }
 
-    pub(crate) fn apply(mut self, c: u8, params: Params) -> Registers
-        ensures { λ r. ⌜ r ≡ registersApplied c params self ⌝ }
+    pub(crate) fn apply(mut self, kind: Kind, params: Params) -> Registers
+        ensures { λ r. ⌜ r ≡ registersApplied kind params self ⌝ }
     {
-        match c {
-            0x36 => {
-                self.madctl = byte_at(params, 0);
-                self
-            }
-            0x3A => {
-                self.colmod = byte_at(params, 0);
-                self
-            }
-            0xB0 => {
-                self.ramctrl0 = byte_at(params, 0);
-                self.ramctrl1 = byte_at(params, 1);
-                self
-            }
-            _ => self,
+        if kind.is(Kind::Madctl) {
+            self.madctl = byte_at(params, 0);
+            return self;
         }
+        if kind.is(Kind::Colmod) {
+            self.colmod = byte_at(params, 0);
+            return self;
+        }
+        if kind.is(Kind::Ramctrl) {
+            self.ramctrl0 = byte_at(params, 0);
+            self.ramctrl1 = byte_at(params, 1);
+            return self;
+        }
+        self
     }
 }

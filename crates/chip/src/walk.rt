@@ -1,36 +1,52 @@
 // The pixel walk as a begun command leaves it.
 ghost use mathlib.Core.Path.{_≡_};
 ghost use Rattle.chip.specs.Begin.{walkBegun, walkReset};
+ghost use Rattle.geometry.specs.declared.Window.{Window};
+use codes::Kind;
 use geometry::Pointer;
 use geometry::Window;
 use pixels::Carry;
 use pixels::Walk;
 
-pub(crate) fn begun_walk(c: u8, window: Window, walk: Walk) -> Walk
-    ensures { λ r. ⌜ r ≡ walkReset c (walkBegun c window walk) ⌝ }
+// The same carry, made anew: a copy would go through memory at each command.
+fn anew(carry: Carry) -> Carry
+    ensures { λ r. ⌜ r ≡ carry ⌝ }
 {
-    match c {
-        0x2C => {
-            let start = Pointer {
-                x: window.xs,
-                y: window.ys,
-            };
-            Walk {
-                pointer: start,
-                carry: Carry::Empty,
-            }
-        }
-        0x3C => walk,
-        0x01 => {
-            let origin = Pointer { x: 0, y: 0 };
-            Walk {
-                pointer: origin,
-                carry: Carry::Empty,
-            }
-        }
-        _ => Walk {
-            carry: Carry::Empty,
-            ..walk
-        },
+    match carry {
+        Carry::Empty => Carry::Empty,
+        Carry::High(byte) => Carry::High(byte),
     }
+}
+
+fn begun_carry(kind: Kind, walk: Walk) -> Carry
+    ensures { λ r. ⌜ ((window : Window) → r ≡ walkReset kind (walkBegun kind window walk) .carry) ⌝ }
+{
+    let carry = walk.carry;
+    if kind.is(Kind::Ramwrc) {
+        return anew(carry);
+    }
+    Carry::Empty
+}
+
+fn begun_pointer(kind: Kind, window: Window, walk: Walk) -> Pointer
+    ensures { λ r. ⌜ r ≡ walkReset kind (walkBegun kind window walk) .pointer ⌝ }
+{
+    if kind.is(Kind::Ramwr) {
+        return Pointer {
+            x: window.xs,
+            y: window.ys,
+        };
+    }
+    if kind.is(Kind::Swreset) {
+        return Pointer { x: 0, y: 0 };
+    }
+    walk.pointer
+}
+
+pub(crate) fn begun_walk(kind: Kind, window: Window, walk: Walk) -> Walk
+    ensures { λ r. ⌜ r ≡ walkReset kind (walkBegun kind window walk) ⌝ }
+{
+    let carry = begun_carry(kind, walk);
+    let pointer = begun_pointer(kind, window, walk);
+    Walk { pointer, carry }
 }

@@ -4,6 +4,7 @@ ghost use Prim.Native.Nat.{_<_, min};
 ghost use Rattle.chip.specs.Begin.{fullWindow, windowBegun};
 ghost use Rattle.chip.specs.Apply.{numberAt, windowApplied};
 use crate::decoding::byte_at;
+use codes::Kind;
 use geometry::Window;
 use lists::Params;
 use pixels::bytewise::joined;
@@ -21,10 +22,10 @@ pub(crate) fn full_window(madctl: u8) -> Window
     }
 }
 
-pub(crate) fn begun_window(c: u8, madctl: u8, window: Window) -> Window
-    ensures { λ r. ⌜ r ≡ windowBegun c madctl window ⌝ }
+pub(crate) fn begun_window(kind: Kind, madctl: u8, window: Window) -> Window
+    ensures { λ r. ⌜ r ≡ windowBegun kind madctl window ⌝ }
 {
-    if c == 0x01 {
+    if kind.is(Kind::Swreset) {
         return full_window(madctl);
     }
     window
@@ -39,22 +40,20 @@ fn corner(params: Params, i: usize, most: u16) -> u16
     if at < most { at } else { most }
 }
 
-pub(crate) fn applied_window(c: u8, params: Params, madctl: u8, window: Window) -> Window
-    ensures { λ r. ⌜ r ≡ windowApplied c params madctl window ⌝ }
+pub(crate) fn applied_window(kind: Kind, params: Params, madctl: u8, window: Window) -> Window
+    ensures { λ r. ⌜ r ≡ windowApplied kind params madctl window ⌝ }
 {
-    match c {
-        0x2A => {
-            let most = geometry::col_max(madctl);
-            let xs = corner(params, 0, most);
-            let xe = corner(params, 2, most);
-            Window { xs, xe, ..window }
-        }
-        0x2B => {
-            let most = geometry::row_max(madctl);
-            let ys = corner(params, 0, most);
-            let ye = corner(params, 2, most);
-            Window { ys, ye, ..window }
-        }
-        _ => window,
+    if kind.is(Kind::Caset) {
+        let most = geometry::col_max(madctl);
+        let xs = corner(params, 0, most);
+        let xe = corner(params, 2, most);
+        return Window { xs, xe, ..window };
     }
+    if kind.is(Kind::Raset) {
+        let most = geometry::row_max(madctl);
+        let ys = corner(params, 0, most);
+        let ye = corner(params, 2, most);
+        return Window { ys, ye, ..window };
+    }
+    window
 }

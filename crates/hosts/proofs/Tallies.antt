@@ -10,6 +10,7 @@ use lib.ListN.{length, take, set, getD, replicate, List·getD-map}
 use lib.Seq.{take-set-lt, getD-take, map-set-same}
 use Rattle.status.specs.Numbers.{unlessRefused}
 use Rattle.status.specs.Tests.{memoryRefusal}
+use Rattle.codes.proofs.Bytes.{is-ramwr}
 use Rattle.lists.specs.Fixed.{Fixed, places, used, push, pushAll}
 use Rattle.lists.specs.declared.Params.{Params}
 use Rattle.lists.specs.declared.TraceRecord.{TraceRecord}
@@ -89,7 +90,10 @@ all-commands t (c ∷ bytes) s = let rest = all-commands t bytes (begun c t s) i
 all-ramwrs : (t : ℕ) (bytes : List ℕ) (s : St7789p3) → begunAll t bytes s .controller .counts .«ramwr_count» ≡ s .controller .counts .«ramwr_count» + timesSent 0x2C bytes
 unfolding begun
 all-ramwrs t [] s = omega arith
-all-ramwrs t (c ∷ bytes) s = all-ramwrs t bytes (begun c t s) ∙ go (eqb c 0x2C) (s .controller .counts .«ramwr_count») (timesSent 0x2C bytes)
+all-ramwrs t (c ∷ bytes) s =
+    all-ramwrs t bytes (begun c t s)
+    ∙ ap (λ b. cond b (s .controller .counts .«ramwr_count» + 1) (s .controller .counts .«ramwr_count») + timesSent 0x2C bytes) (is-ramwr c)
+    ∙ go (eqb c 0x2C) (s .controller .counts .«ramwr_count») (timesSent 0x2C bytes)
   where
     go : (b : Bool) (n k : ℕ) → cond b (n + 1) n + k ≡ n + cond b (k + 1) k
     go true n k = omega arith

@@ -11,6 +11,8 @@ use lib.ListN.{length, set, getD}
 use lib.Seq.{set-out, getD-set-same, getD-set-other}
 use Rattle.chip.specs.Site.{siteOf}
 use Rattle.pixels.proofs.Laws.{counted-few}
+use Rattle.codes.specs.Codes.{kindOf, is}
+use Rattle.codes.specs.declared.Kind.the-variants.{Ramwr}
 use Rattle.lists.specs.Fixed.{places}
 use Rattle.lists.specs.declared.TraceRecord.{TraceRecord}
 use Rattle.lists.specs.declared.Current.{Current}
@@ -67,7 +69,7 @@ begun-grown c t s g =
     let h = begun-held c t s g in
     record {
       commands = omega arith;
-      ramwrs = one-more (eqb c 0x2C) (s .controller .counts .«ramwr_count»);
+      ramwrs = one-more (is (kindOf c) Ramwr) (s .controller .counts .«ramwr_count»);
       pixels = omega arith;
       dropped = omega arith;
       held = omega (arith, h);

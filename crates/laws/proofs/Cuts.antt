@@ -11,7 +11,7 @@ use Rattle.pixels.specs.Run.{walkedOn, unwalked}
 use Rattle.pixels.specs.declared.Walked.{Walked}
 use Rattle.pixels.proofs.Laws.{walked-cut}
 use Rattle.lists.specs.Params.{filled, excess}
-use Rattle.lists.specs.Entries.{isStored, placeOf}
+use Rattle.codes.specs.Codes.{kindOf, commandOf, isStored, placeOf}
 use Rattle.lists.specs.declared.Stored.{Stored}
 use Rattle.lists.proofs.Cuts.{filled-cut, excess-cut}
 use Rattle.chip.specs.Apply.{chipTaken}
@@ -59,11 +59,11 @@ module _ (a b : List ℕ) (k : Controller) where
   unfolding taken chipTaken
   taken-cut c =
       let p = k .chip .decoder .params in
-      let q = chipTaken c a (k .chip) .decoder .params in
+      let q = chipTaken (commandOf c) a (k .chip) .decoder .params in
       ap₂ by
       (chip-cut c a b (k .chip))
       (ap (λ n. k .counts .«dropped_params» + n)
-      (excess-cut p a b ∙ ap (λ x. excess p (length a) + excess x (length b)) (sym (taken-params c a (k .chip))))
+      (excess-cut p a b ∙ ap (λ x. excess p (length a) + excess x (length b)) (sym (taken-params (commandOf c) a (k .chip))))
       ∙ sym (add-assoc (k .counts .«dropped_params») (excess p (length a)) (excess q (length b))))
     where
       by : Chip → ℕ → Controller
@@ -95,11 +95,11 @@ module _ (a b : List ℕ) (s : St7789p3) where
       (sym (current-twice (λ r. r) (λ r. r) (λ r. r) (λ r. refl) (s .controller .logs .current) (s .records))) refl
   by-cut false (Code c) =
       let p = s .controller .chip .decoder .params in
-      let q = chipTaken c a (s .controller .chip) .decoder .params in
+      let q = chipTaken (commandOf c) a (s .controller .chip) .decoder .params in
       same-panel (taken-cut a b (s .controller) c)
-      (ap (λ x. cond (isStored c) (set (s .stored) (placeOf c) (record { present = true; params = x })) (s .stored))
-      (filled-cut p a b ∙ ap (λ x. filled x b) (sym (taken-params c a (s .controller .chip))))
-      ∙ stored-twice (isStored c) (placeOf c) (record { present = true; params = filled p a }) (record { present = true; params = filled q b }))
+      (ap (λ x. cond (isStored (kindOf c)) (set (s .stored) (placeOf (kindOf c)) (record { present = true; params = x })) (s .stored))
+      (filled-cut p a b ∙ ap (λ x. filled x b) (sym (taken-params (commandOf c) a (s .controller .chip))))
+      ∙ stored-twice (isStored (kindOf c)) (placeOf (kindOf c)) (record { present = true; params = filled p a }) (record { present = true; params = filled q b }))
       (sym (params-twice a b (s .controller .logs .current) (s .records)))
       refl
 
@@ -116,4 +116,4 @@ module _ (a b : List ℕ) (s : St7789p3) where
       go false (Code c) e g =
           by-cut false (Code c)
           ∙ sym
-          (data-by b (dataBy false (Code c) a s) false (Code c) (taken-run c a (s .controller .chip) ∙ e) (taken-cmd c a (s .controller .chip) ∙ g))
+          (data-by b (dataBy false (Code c) a s) false (Code c) (taken-run (commandOf c) a (s .controller .chip) ∙ e) (taken-cmd (commandOf c) a (s .controller .chip) ∙ g))

@@ -17,3 +17,4 @@ pub mod Stepped
 pub mod SameMoved
 pub mod SameKept
 pub mod Sentences
+pub mod Decoding

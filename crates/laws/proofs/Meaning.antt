@@ -6,6 +6,7 @@ use lib.Dec.{ltb}
 use lib.ListN.{length, take, set, getD}
 use lib.Seq.{take-set-lt}
 use native.Mathlib.Omega.{arith}
+use Rattle.codes.specs.Codes.{kindOf}
 use Rattle.lists.specs.Fixed.{places, used}
 use Rattle.lists.specs.declared.Current.the-variants.{At}
 use Rattle.lists.proofs.Fixed.{used-all}
@@ -23,7 +24,7 @@ module _ (s : St7789p3) where
       (c t : ℕ) → s .controller .logs .warned ≤ places → length (s .warnings) ≡ places →
       used (warningsOf (begun c t s)) ≡
       take places
-      (used (warningsOf s) ++ map (warning c t) (rulesOf (brokenBy (s .controller .chip .times) (s .controller .chip .registers .colmod) c t)))
+      (used (warningsOf s) ++ map (warning c t) (rulesOf (brokenBy (s .controller .chip .times) (s .controller .chip .registers .colmod) (kindOf c) t)))
   unfolding begun
   warnings-mean c t few long =
       ap (λ n. take n (linted c t s .places)) (warned-by c t s (ltb (s .controller .logs .traced) places))

@@ -10,16 +10,17 @@ use lib.ListN.{length, take, set}
 use lib.Seq.{getD-take}
 use Rattle.status.specs.Numbers.{unlessRefused}
 use Rattle.pixels.specs.Run.{written}
+use Rattle.codes.specs.Codes.{kindOf, needOf, commandOf, isStored, placeOf}
+use Rattle.codes.proofs.Bytes.{needFor}
 use Rattle.lists.specs.Fixed.{places, used}
 use Rattle.lists.specs.Params.{fixed, noParams, filled, excess}
-use Rattle.lists.specs.Entries.{isStored, placeOf}
 use Rattle.lists.specs.declared.Params.{Params}
 use Rattle.lists.specs.declared.Warning.{Warning}
 use Rattle.lists.proofs.Fixed.{count-all}
 use Rattle.lists.proofs.Maps.{map-take, map-set}
 use Rattle.timing.specs.Lint.{brokenBy, rulesOf}
 use Rattle.chip.specs.Begin.{chipBegun, chipReleased}
-use Rattle.chip.specs.Apply.{need, due, byteAt, chipFilled, chipApplied, appliedIfDue, chipTaken}
+use Rattle.chip.specs.Apply.{due, byteAt, chipFilled, chipApplied, appliedIfDue, chipTaken}
 use Rattle.chip.specs.declared.Chip.{Chip}
 use Rattle.chip.specs.declared.InForce.{InForce}
 use Rattle.chip.specs.declared.InForce.the-variants.{Code}
@@ -44,7 +45,7 @@ use Rattle.laws.proofs.SameRefused.{refusalIn, refusal-told, refusal-sa
 
 -- A command begins.
 abbrev warningsFor : ℕ → ℕ → Controller → List Warning
-warningsFor c t k = map (warning c t) (rulesOf (brokenBy (k .chip .times) (k .chip .registers .colmod) c t))
+warningsFor c t k = map (warning c t) (rulesOf (brokenBy (k .chip .times) (k .chip .registers .colmod) (kindOf c) t))
 
 -- So many warnings are used.
 abbrev warnedBy : ℕ → Controller → Controller
@@ -106,9 +107,9 @@ withParams p k =
 abbrev emptied : Chip → Chip
 emptied k = withParams (record { bytes = []; count = k .decoder .params .count }) k
 
-applied-told : (c : ℕ) (k : Chip) → emptied (appliedIfDue c k) ≡ emptied (appliedIfDue c (withParams (paramsOf (inUse (fixed (k .decoder .params)))) k))
+applied-told : (c : ℕ) (k : Chip) → emptied (appliedIfDue (commandOf c) k) ≡ emptied (appliedIfDue (commandOf c) (withParams (paramsOf (inUse (fixed (k .decoder .params)))) k))
 unfolding appliedIfDue
-applied-told c k = go (due c (k .decoder)) refl
+applied-told c k = go (due (needOf c) (k .decoder)) refl
   where
     p : Params
     p = k .decoder .params
@@ -116,12 +117,12 @@ applied-told c k = go (due c (k .decoder)) refl
     q : Params
     q = paramsOf (inUse (fixed p))
 
-    go : (b : Bool) → due c (k .decoder) ≡ b → emptied (cond b (chipApplied c k) k) ≡ emptied (cond b (chipApplied c (withParams q k)) (withParams q k))
+    go : (b : Bool) → due (needOf c) (k .decoder) ≡ b → emptied (cond b (chipApplied (kindOf c) k) k) ≡ emptied (cond b (chipApplied (kindOf c) (withParams q k)) (withParams q k))
     go false e = refl
     go true e =
-        let h : need c ≤ p .count = due-enough c (k .decoder) e in
+        let h : needFor (kindOf c) ≤ p .count = due-enough c (k .decoder) e in
         let agree : (i : ℕ) → i < p .count → byteAt q i ≡ byteAt p i = λ i b. getD-take (p .count) (p .bytes) i 0 b in
-        rw (window-agrees c p q agree h (k .registers .madctl) (k .window), registers-agree c p q agree h (k .registers))
+        rw (window-agrees (kindOf c) p q agree h (k .registers .madctl) (k .window), registers-agree (kindOf c) p q agree h (k .registers))
 
 abbrev moreBytes : ℕ → Entry → Entry
 moreBytes n x = record { cmd = x .cmd; at = x .at; pixels = x .pixels + n; params = x .params }
@@ -153,9 +154,9 @@ dataIn′ false (Code c) bytes v =
       fields =
           fieldsOf
           (withCounts (droppedAdded (excess (v .fields .chip .decoder .params) (length bytes)) (v .fields .counts))
-          (withChip (appliedIfDue c (withParams (paramsOf u) (v .fields .chip))) (v .fields)));
+          (withChip (appliedIfDue (commandOf c) (withParams (paramsOf u) (v .fields .chip))) (v .fields)));
       params = u;
-      stored = cond (isStored c) (set (v .stored) (placeOf c) (Option.some u)) (v .stored);
+      stored = cond (isStored (kindOf c)) (set (v .stored) (placeOf (kindOf c)) (Option.some u)) (v .stored);
       trace = onEntry (moreListed bytes) (v .fields .logs .current) (v .trace);
       warnings = v .warnings;
     }
@@ -186,9 +187,9 @@ data-content false (Code c) bytes s g = λ i.
     record {
       fields =
           withCounts (droppedAdded (excess p (length bytes)) (k .counts))
-          (withChip ((applied-told c (chipFilled bytes (k .chip)) ∙ ap (λ u. emptied (appliedIfDue c (withParams (paramsOf u) (k .chip)))) filled-told) i) k);
-      params = (ap (λ x. inUse (fixed x)) (taken-params c bytes (k .chip)) ∙ filled-told) i;
-      stored = stored-told (isStored c) i;
+          (withChip ((applied-told c (chipFilled bytes (k .chip)) ∙ ap (λ u. emptied (appliedIfDue (commandOf c) (withParams (paramsOf u) (k .chip)))) filled-told) i) k);
+      params = (ap (λ x. inUse (fixed x)) (taken-params (commandOf c) bytes (k .chip)) ∙ filled-told) i;
+      stored = stored-told (isStored (kindOf c)) i;
       trace =
           current-content (moreParams bytes) (moreListed bytes)
           (λ x short room. ap (λ u. record { cmd = x .cmd; at = x .at; pixels = x .«pixel_bytes»; params = u })
@@ -208,11 +209,11 @@ data-content false (Code c) bytes s g = λ i.
 
     stored-told :
         (b : Bool) →
-        map storedContent (cond b (set (s .stored) (placeOf c) (record { present = true; params = filled p bytes })) (s .stored)) ≡
-        cond b (set (map storedContent (s .stored)) (placeOf c) (Option.some (pushedIn 14 bytes (inUse (fixed p))))) (map storedContent (s .stored))
+        map storedContent (cond b (set (s .stored) (placeOf (kindOf c)) (record { present = true; params = filled p bytes })) (s .stored)) ≡
+        cond b (set (map storedContent (s .stored)) (placeOf (kindOf c)) (Option.some (pushedIn 14 bytes (inUse (fixed p))))) (map storedContent (s .stored))
     stored-told true =
-        map-set storedContent (s .stored) (placeOf c) (record { present = true; params = filled p bytes })
-        ∙ ap (λ (u : InUse ℕ). set (map storedContent (s .stored)) (placeOf c) (Option.some u)) filled-told
+        map-set storedContent (s .stored) (placeOf (kindOf c)) (record { present = true; params = filled p bytes })
+        ∙ ap (λ (u : InUse ℕ). set (map storedContent (s .stored)) (placeOf (kindOf c)) (Option.some u)) filled-told
     stored-told false = refl
 
 -- The CS release.

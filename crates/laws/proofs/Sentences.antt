@@ -4,6 +4,8 @@ use mathlib.Core.Path.{_≡_, refl}
 use mathlib.Core.Bool.{Bool, true, false}
 use mathlib.Core.List.{List, [], _∷_}
 use lib.Dec.{eqb}
+use Rattle.codes.specs.Codes.{kindOf, needOf}
+use Rattle.codes.proofs.Bytes.{is-swreset, is-slpin, is-slpout, is-invoff, is-invon, is-dispoff, is-dispon}
 use Rattle.lists.specs.Entries.{some}
 use Rattle.lists.proofs.Bools.{neither}
 use Rattle.timing.specs.Lint.{timesAfter}
@@ -24,7 +26,7 @@ data-timeless t t′ bytes cs cells s = (refl, refl)
 
 -- "Then effects: 01 .., 10 .., 11 .., 20 and 21 .., 28 and 29 .. Other bytes have no effect here."
 pub others-idle :
-    (c t : ℕ) (s : Chip) → some (eqb c) (0x01 ∷ 0x10 ∷ 0x11 ∷ 0x20 ∷ 0x21 ∷ 0x28 ∷ 0x29 ∷ []) ≡ false → effects c t s ≡ s
+    (c t : ℕ) (s : Chip) → some (eqb c) (0x01 ∷ 0x10 ∷ 0x11 ∷ 0x20 ∷ 0x21 ∷ 0x28 ∷ 0x29 ∷ []) ≡ false → effects (kindOf c) t s ≡ s
 unfolding timesAfter
 others-idle c t s e =
     let a = neither (eqb c 0x01) _ e in
@@ -34,10 +36,10 @@ others-idle c t s e =
     let g = neither (eqb c 0x21) _ (f .1) in
     let h = neither (eqb c 0x28) _ (g .1) in
     let k = neither (eqb c 0x29) _ (h .1) in
-    rw (a .0, b .0, d .0, f .0, g .0, h .0, k .0)
+    rw (is-swreset c, is-slpin c, is-slpout c, is-invoff c, is-invon c, is-dispoff c, is-dispon c, a .0, b .0, d .0, f .0, g .0, h .0, k .0)
 
 pub swreset-keeps : (t : ℕ) (s : St7789p3) → ResetKeeps s (begun 0x01 t s)
-unfolding begun timesAfter
+unfolding begun timesAfter kindOf needOf
 swreset-keeps t s =
     record {
       madctl = refl;

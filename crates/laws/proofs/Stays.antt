@@ -11,9 +11,10 @@ use Rattle.marks.specs.Rows.{marksBad}
 use Rattle.marks.specs.declared.Marks.{Marks}
 use Rattle.pixels.proofs.Bounds.{walk-within, marked-good}
 use Rattle.chip.specs.Site.{siteOf}
+use Rattle.codes.specs.Codes.{kindOf, commandOf, isStored, placeOf}
 use Rattle.lists.specs.Fixed.{Fixed, places, pushAll}
 use Rattle.lists.specs.Params.{noParams, filled, differ, tooLong}
-use Rattle.lists.specs.Entries.{some, storedLong, recordLong, isStored, placeOf}
+use Rattle.lists.specs.Entries.{some, storedLong, recordLong}
 use Rattle.lists.specs.declared.Params.{Params}
 use Rattle.lists.specs.declared.Stored.{Stored}
 use Rattle.lists.specs.declared.TraceRecord.{TraceRecord}
@@ -89,13 +90,13 @@ put-good s w bytes warnings trace stored warned span =
 few-warnings : (c t : ℕ) (s : St7789p3) → Good s → countBad (linted c t s .count) ≡ false
 few-warnings c t s g =
     let h : s .controller .logs .warned ≤ places = ltb-false places (s .controller .logs .warned) (clause s (g .fine) 6) in
-    let ws = map (warning c t) (rulesOf (brokenBy (s .controller .chip .times) (s .controller .chip .registers .colmod) c t)) in
+    let ws = map (warning c t) (rulesOf (brokenBy (s .controller .chip .times) (s .controller .chip .registers .colmod) (kindOf c) t)) in
     le-ltb places (pushAll places (warningsOf s) ws .count) (rw (count-all places (warningsOf s) ws) (omega arith))
 
 warnings-long : (c t : ℕ) (s : St7789p3) → length (linted c t s .places) ≡ length (s .warnings)
 warnings-long c t s =
     places-all places (warningsOf s)
-    (map (warning c t) (rulesOf (brokenBy (s .controller .chip .times) (s .controller .chip .registers .colmod) c t)))
+    (map (warning c t) (rulesOf (brokenBy (s .controller .chip .times) (s .controller .chip .registers .colmod) (kindOf c) t)))
 
 no-params-same : differ noParams noParams ≡ false
 no-params-same = params-same noParams noParams refl refl
@@ -129,7 +130,7 @@ pub begun-good : (c t : ℕ) (s : St7789p3) → Good s → Good (begun c t s)
 unfolding begun chipBegun
 begun-good c t s g =
     let b = ltb (s .controller .logs .traced) places in
-    put-good _ (begun-within c t (s .controller .chip) (chip-within s g)) refl (warnings-long c t s ∙ g .sized .warnings) (lined-by c t s g b refl) (clause s (g .fine) 3)
+    put-good _ (begun-within (commandOf c) t (s .controller .chip) (chip-within s g)) refl (warnings-long c t s ∙ g .sized .warnings) (lined-by c t s g b refl) (clause s (g .fine) 3)
     (ap countBad (warned-by c t s b) ∙ few-warnings c t s g) (clause s (g .fine) 7)
 
 pub all-good : (t : ℕ) (bytes : List ℕ) (s : St7789p3) → Good s → Good (begunAll t bytes s)
@@ -193,10 +194,10 @@ module _ (bytes : List ℕ) (s : St7789p3) (g : Good s) where
       for-command : (c : ℕ) → Good (dataBy false (Code c) bytes s)
       for-command c =
           let p = k .chip .decoder .params in
-          let e = taken-params c bytes (k .chip) in
-          data-parts (chipTaken c bytes (k .chip)) _ _ (moreParams bytes) (storedFor (Code c) (filled p bytes) (s .stored))
-          (taken-within c bytes (k .chip) w) (ap (λ x. length (x .bytes)) e ∙ length-filled p bytes ∙ g .sized .bytes)
-          (clause s (g .fine) 7) (stored-short (isStored c) (placeOf c) _ (filled-short p (clause s (g .fine) 2)))
+          let e = taken-params (commandOf c) bytes (k .chip) in
+          data-parts (chipTaken (commandOf c) bytes (k .chip)) _ _ (moreParams bytes) (storedFor (Code c) (filled p bytes) (s .stored))
+          (taken-within (commandOf c) bytes (k .chip) w) (ap (λ x. length (x .bytes)) e ∙ length-filled p bytes ∙ g .sized .bytes)
+          (clause s (g .fine) 7) (stored-short (isStored (kindOf c)) (placeOf (kindOf c)) _ (filled-short p (clause s (g .fine) 2)))
           (λ r. filled-short (r .params))
           (λ r l h d. ap (differ (filled (r .params) bytes)) e ∙ filled-alike (r .params) p bytes (ltb-false 14 (r .params .count) l) h (g .sized .bytes) d)
           (λ r h. length-filled (r .params) bytes ∙ h)

@@ -6,6 +6,7 @@ use mathlib.Core.List.{List, [], _++_, List·Memᴰ, List·Memᴰ·not-nil}
 use Rattle.pixels.specs.Run.{Store}
 use Rattle.pixels.proofs.Laws.{stores-cut}
 use Rattle.pixels.proofs.Stores.{stores-below}
+use Rattle.codes.specs.Codes.{commandOf}
 use Rattle.chip.specs.Apply.{chipTaken}
 use Rattle.chip.specs.Site.{siteOf, chipStores}
 use Rattle.chip.specs.declared.InForce.{InForce}
@@ -32,7 +33,7 @@ stores-both a b k = go (k .chip .decoder .«in_pixels») (k .chip .decoder .cmd)
         stores-cut (siteOf (k .chip)) a b (k .chip .walk)
         ∙ ap (λ l. storesBy true a k ++ l) (sym (stores-by b (ran a k) true e))
     go false InForce.Nothing e = sym (stores-by b k false e)
-    go false (Code c) e = sym (stores-by b (taken c a k) false (taken-run c a (k .chip) ∙ e))
+    go false (Code c) e = sym (stores-by b (taken c a k) false (taken-run (commandOf c) a (k .chip) ∙ e))
 
 pub in-panel : (dc : Bool) (bytes : List ℕ) (k : Controller) (x : Store) → List·Memᴰ x (storesIn dc bytes k) → x .index < 76800
 in-panel dc bytes k x = go (dc && k .chip .decoder .«in_pixels»)

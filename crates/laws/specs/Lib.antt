@@ -1,3 +1,4 @@
+pub mod Bytes
 pub mod Valid
 pub mod Same
 pub mod Cases

@@ -2,7 +2,7 @@
 ghost use mathlib.Core.Path.{_≡_};
 ghost use Prim.Native.Nat.{_+_, _-_, min};
 ghost use lib.Dec.{ltb, eqb};
-ghost use Rattle.lists.specs.Entries.{some, storedLong, placeOf};
+ghost use Rattle.lists.specs.Entries.{some, storedLong};
 ghost use Rattle.lists.specs.Params.{noParams, filled, excess, differ};
 pub use copying::copy;
 
@@ -158,25 +158,4 @@ pub fn stored_long(stored: [Stored; 12]) -> bool
         i += 1;
     }
     false
-}
-
-// The place of a stored command, 12 for any other.
-pub fn stored_place(c: u8) -> usize
-    ensures answer { λ r. ⌜ r ≡ placeOf c ⌝ }
-{
-    match c {
-        0xB2 => 0,
-        0xB7 => 1,
-        0xBB => 2,
-        0xC0 => 3,
-        0xC2 => 4,
-        0xC3 => 5,
-        0xC4 => 6,
-        0xC6 => 7,
-        0xD0 => 8,
-        0xD6 => 9,
-        0xE0 => 10,
-        0xE1 => 11,
-        _ => 12,
-    }
 }

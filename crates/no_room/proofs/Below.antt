@@ -1,4 +1,4 @@
--- Every public operation of digests, status, geometry, marks, pixels, engine, lists, timing, board and chip: its promise, which is its contract, leaves no room.
+-- Every public operation of digests, status, geometry, marks, pixels, engine, lists, codes, timing, board and chip: its promise, which is its contract, leaves no room.
 use mathlib.Core.Path.{refl}
 use Rattle.digests.proofs.digest as digest
 use Rattle.status.proofs.number as number
@@ -36,8 +36,13 @@ use Rattle.lists.proofs.free as free
 use Rattle.lists.proofs.is_latest as is-latest
 use Rattle.lists.proofs.over as over
 use Rattle.lists.proofs.stored_long as stored-long
-use Rattle.lists.proofs.stored_place as stored-place
 use Rattle.lists.proofs.copy as copy
+use Rattle.codes.proofs.table as table
+use Rattle.codes.proofs.decode as decode
+use Rattle.codes.proofs.Kind.is as kind-is
+use Rattle.codes.proofs.Kind.starts_run as starts-run
+use Rattle.codes.proofs.Kind.has_effect as has-effect
+use Rattle.codes.proofs.Command.place as command-place
 use Rattle.timing.proofs.lint as lint
 use Rattle.timing.proofs.Broken.count as count
 use Rattle.timing.proofs.Broken.rule as rule
@@ -168,11 +173,26 @@ over-one κs args x y u v p q = (same p q, refl)
 pub stored-long-one : Only stored-long.ended stored-long.Reads.Learnt
 stored-long-one κs args x y u v p q = (same p q, refl)
 
-pub stored-place-one : Only stored-place.ended stored-place.Reads.Learnt
-stored-place-one κs args x y u v p q = (same p q, refl)
-
 pub copy-one : Only copy.ended copy.Reads.Learnt
 copy-one κs args x y u v p q = (refl, λ i. (tt, (same p q i, tt)))
+
+pub table-one : Only table.ended table.Reads.Learnt
+table-one κs args x y u v p q = (same p q, refl)
+
+pub decode-one : Only decode.ended decode.Reads.Learnt
+decode-one κs args x y u v p q = (same p q, refl)
+
+pub kind-is-one : Only kind-is.ended kind-is.Reads.Learnt
+kind-is-one κs args x y u v p q = (same p q, refl)
+
+pub starts-run-one : Only starts-run.ended starts-run.Reads.Learnt
+starts-run-one κs args x y u v p q = (same p q, refl)
+
+pub has-effect-one : Only has-effect.ended has-effect.Reads.Learnt
+has-effect-one κs args x y u v p q = (same p q, refl)
+
+pub command-place-one : Only command-place.ended command-place.Reads.Learnt
+command-place-one κs args x y u v p q = (same p q, refl)
 
 pub lint-one : Only lint.ended lint.Reads.Learnt
 lint-one κs args x y u v p q = (same p q, refl)

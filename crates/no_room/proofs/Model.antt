@@ -3,6 +3,7 @@ use Rattle.geometry.specs.Place.{mapOf, outcome, next}
 use Rattle.marks.specs.Rows.{noRows, allRows, mark, spanOf, marksBad}
 use Rattle.pixels.specs.Bytes.{arrival}
 use Rattle.pixels.specs.Run.{stores, walkAfter, pixelsCounted}
+use Rattle.codes.specs.Codes.{kindOf, needOf}
 use Rattle.lists.specs.Params.{filled, differ}
 use Rattle.boot.specs.Boot.{fits, comparedFrom}
 use Rattle.timing.specs.Lint.{brokenBy, timesAfter}
@@ -16,5 +17,5 @@ use Rattle.light.specs.Light.{dimmed}
 use Rattle.publishing.specs.Publish.{publishRefusal, published, publishedFrame}
 
 unfoldable pub model : Unit {0}
-unfolding mapOf outcome next noRows allRows mark spanOf marksBad arrival stores walkAfter pixelsCounted filled differ fits comparedFrom brokenBy timesAfter freshChip chipBegun chipReleased appliedIfDue chipTaken begun controllerReleased ran taken dataIn badState transferRefusal freshController emptyLists moved transferred transferMemory dimmed publishRefusal published publishedFrame
+unfolding kindOf needOf mapOf outcome next noRows allRows mark spanOf marksBad arrival stores walkAfter pixelsCounted filled differ fits comparedFrom brokenBy timesAfter freshChip chipBegun chipReleased appliedIfDue chipTaken begun controllerReleased ran taken dataIn badState transferRefusal freshController emptyLists moved transferred transferMemory dimmed publishRefusal published publishedFrame
 model = tt

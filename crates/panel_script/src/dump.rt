@@ -113,28 +113,6 @@ fn print_rest(chip: Chip, current: Current) {
     print_current(current);
 }
 
-// The command of a place, in the places' order.
-fn code_of(place: usize) -> u8 {
-    let codes = [
-        0xB2u8,
-        0xB7,
-        0xBB,
-        0xC0,
-        0xC2,
-        0xC3,
-        0xC4,
-        0xC6,
-        0xD0,
-        0xD6,
-        0xE0,
-        0xE1,
-    ];
-    if place < 12 {
-        return codes[place];
-    }
-    0
-}
-
 fn print_stored(code: u8, entry: Stored) {
     if entry.present {
         let params = entry.params;
@@ -143,11 +121,18 @@ fn print_stored(code: u8, entry: Stored) {
     }
 }
 
+// Each byte that has a place, in the order of the bytes.
 fn print_all_stored(stored: [Stored; 12]) {
-    let mut i = 0;
-    while i < 12 {
-        let entry = stored[i];
-        print_stored(code_of(i), entry);
+    let codes = codes::table();
+    let mut i = 0usize;
+    while i < 256 {
+        let c = (i % 256) as u8;
+        let command = codes::decode(&codes, c);
+        let place = command.place();
+        if place < 12 {
+            let entry = stored[place];
+            print_stored(c, entry);
+        }
         i += 1;
     }
 }

@@ -39,7 +39,9 @@ fn name(word: &[u8]) -> Number {
 // The place of a stored command: 12 where it is none.
 fn stored(word: &[u8]) -> Number {
     let code = numbers::hex(word, 2);
-    let place = lists::stored_place(byte(code.value));
+    let codes = codes::table();
+    let command = codes::decode(&codes, byte(code.value));
+    let place = command.place();
     Number {
         value: place as u64,
         good: code.good,

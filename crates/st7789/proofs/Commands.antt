@@ -6,9 +6,11 @@ use mathlib.Core.List.{List, [], _∷_, map, foldl}
 use native.Mathlib.Numerals.{add-one}
 use native.Mathlib.Omega.{arith}
 use borrow.Author.Tests.{lt-ltb, le-ltb, ltb-true, ltb-false}
-use lib.Dec.{ltb, eqb}
+use lib.Dec.{ltb}
 use lib.ListN.{length, set, getD, take, drop, length-take, length-drop, drop-of-length-le}
 use lib.Seq.{drop-cons, take-all}
+use Rattle.codes.specs.Codes.{kindOf, is}
+use Rattle.codes.specs.declared.Kind.the-variants.{Ramwr}
 use Rattle.lists.specs.Fixed.{Fixed, places, push, pushAll}
 use Rattle.lists.specs.declared.Stored.{Stored}
 use Rattle.lists.specs.declared.TraceRecord.{TraceRecord}
@@ -113,7 +115,7 @@ module _ (c t : ℕ) where
   -- A command begun, put together from the rules that it broke, the controller and the records.
   pub begun-put :
       {b : Broken} (s₀ : St7789p3) {s : St7789p3} {k : Controller} {rs : List TraceRecord} →
-      b ≡ brokenBy (s₀ .controller .chip .times) (s₀ .controller .chip .registers .colmod) c t →
+      b ≡ brokenBy (s₀ .controller .chip .times) (s₀ .controller .chip .registers .colmod) (kindOf c) t →
       s ≡ withWarnings (pushAll places (warningsOf s₀) (map (warning c t) (rulesOf b))) s₀ → k ≡ controllerBegun c t (s .controller) →
       rs ≡ push places (traceOf s) (begunRecord c t) .places →
       _≡_ {A = St7789p3} (record { controller = k; stored = s .stored; records = rs; warnings = s .warnings }) (begun c t s₀)
@@ -128,7 +130,7 @@ module _ (c t : ℕ) where
   unfolding begun
   begun-quiet s e =
       let n = neither (ltb (s .controller .logs .traced) places) (ltb (s .controller .logs .warned) places) e in
-      let kept : linted c t s ≡ warningsOf s = full places (warningsOf s) (map (warning c t) (rulesOf (brokenBy (s .controller .chip .times) (s .controller .chip .registers .colmod) c t))) (ltb-false (s .controller .logs .warned) places (n .1)) in
+      let kept : linted c t s ≡ warningsOf s = full places (warningsOf s) (map (warning c t) (rulesOf (brokenBy (s .controller .chip .times) (s .controller .chip .registers .colmod) (kindOf c) t))) (ltb-false (s .controller .logs .warned) places (n .1)) in
       ap (λ f. afterLint (withWarnings f s)) kept ∙ same-panel refl refl (rw (n .0)) refl
 
   still-quiet : (k : Controller) → anyFree (k .logs) ≡ false → anyFree (controllerBegun c t k .logs) ≡ false
@@ -168,13 +170,13 @@ module _ {S : Type 0} {step : S → ℕ → S} {counts : S → Counts} {bytes : 
 
   pub turn-next :
       {s s′ : S} {i : ℕ} → Turn step counts bytes s₀ s i → i < length bytes → s′ ≡ step s (getD bytes i 0) →
-      counts s′ ≡ countsBegun (getD bytes i 0) (counts s) → Turn step counts bytes s₀ s′ (i + 1)
+      counts s′ ≡ countsBegun (kindOf (getD bytes i 0)) (counts s) → Turn step counts bytes s₀ s′ (i + 1)
   turn-next {s} {s′} {i} u h e ec =
       record {
         within = omega arith;
         few = u .few;
         commands = rw ec (omega (arith, u .commands));
-        ramwrs = rw ec (omega (arith, u .ramwrs, one-more (eqb (getD bytes i 0) 0x2C) (counts s .«ramwr_count»)));
+        ramwrs = rw ec (omega (arith, u .ramwrs, one-more (is (kindOf (getD bytes i 0)) Ramwr) (counts s .«ramwr_count»)));
         left = ap (λ x. foldl step x (drop (i + 1) bytes)) e ∙ rw (add-one i) (rw (drop-cons bytes i 0 h) at (u .left));
       }
 
@@ -231,7 +233,7 @@ module _ (t : ℕ) where
   all-ramwrs : (bytes : List ℕ) (k : Controller) → controllerBegunAll t bytes k .counts .«ramwr_count» ≤ k .counts .«ramwr_count» + length bytes
   all-ramwrs [] k = omega arith
   all-ramwrs (c ∷ bytes) k =
-      omega (arith, all-ramwrs bytes (controllerBegun c t k), one-more (eqb c 0x2C) (k .counts .«ramwr_count»))
+      omega (arith, all-ramwrs bytes (controllerBegun c t k), one-more (is (kindOf c) Ramwr) (k .counts .«ramwr_count»))
 
 none-past : (bytes : List ℕ) → drop (length bytes) bytes ≡ []
 none-past bytes = let e : length bytes ≤ length bytes = omega arith in drop-of-length-le bytes e
@@ -244,7 +246,7 @@ module _ (t : ℕ) {bytes : List ℕ} {s₀ s : St7789p3} {i : ℕ} (u : PanelTu
   pub panel-part :
       {end : ℕ} {b : Broken} {s′ : St7789p3} {k : Controller} {rs : List TraceRecord} →
       end ≡ cond (anyFree (s .controller .logs)) (i + 1) (length bytes) →
-      b ≡ brokenBy (s .controller .chip .times) (s .controller .chip .registers .colmod) (getD bytes i 0) t →
+      b ≡ brokenBy (s .controller .chip .times) (s .controller .chip .registers .colmod) (kindOf (getD bytes i 0)) t →
       s′ ≡ withWarnings (pushAll places (warningsOf s) (map (warning (getD bytes i 0) t) (rulesOf b))) s →
       k ≡ controllerBegunAll t (partOf bytes i end) (s′ .controller) →
       rs ≡ push places (traceOf s′) (begunRecord (getD bytes i 0) t) .places → PanelTurn t bytes s₀ (afterPart s′ k rs) end

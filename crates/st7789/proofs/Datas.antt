@@ -11,6 +11,8 @@ use Rattle.geometry.specs.declared.Site.{Site}
 use Rattle.pixels.specs.Run.{stores, written, walkedOn, unwalked}
 use Rattle.pixels.specs.declared.Walked.{Walked}
 use Rattle.pixels.proofs.Laws.{counted-few}
+use Rattle.codes.specs.Codes.{commandOf}
+use Rattle.codes.specs.declared.Command.{Command}
 use Rattle.lists.specs.Params.{excess}
 use Rattle.chip.specs.Apply.{chipTaken}
 use Rattle.chip.specs.Site.{siteOf, chipStores}
@@ -19,6 +21,7 @@ use Rattle.chip.specs.declared.InForce.the-variants.{Code}
 use Rattle.chip.specs.declared.Chip.{Chip}
 use Rattle.st7789.specs.Parts.{whole, withChip, withCounts}
 use Rattle.st7789.specs.Data.{walkOver, walkedChip, pixelsAdded, droppedAdded, ran, taken, takenFor, controllerData, storesIn}
+use Rattle.st7789.specs.Places.{noCommand, commandFor, commandIn}
 use Rattle.st7789.specs.Room.{Countable}
 use Rattle.st7789.specs.declared.Controller.{Controller}
 
@@ -56,11 +59,17 @@ module _ (k : Controller) (bytes : List ℕ) where
   pub data-lost : k .chip .decoder .«in_pixels» ≡ false → k .chip .decoder .cmd ≡ InForce.Nothing → k ≡ controllerData bytes k
   data-lost e ec = ap₂ (λ b f. dataBy b f) (sym e) (sym ec)
 
+  -- The command in force, where no run is on.
+  pub command-for : {c : ℕ} → k .chip .decoder .«in_pixels» ≡ false → k .chip .decoder .cmd ≡ Code c → commandOf c ≡ commandIn k
+  command-for e ec = ap₂ (λ b f. cond b noCommand (commandFor f)) (sym e) (sym ec)
+
   pub data-for :
-      {c n : ℕ} {chip : Chip} → k .chip .decoder .«in_pixels» ≡ false → k .chip .decoder .cmd ≡ Code c → chip ≡ chipTaken c bytes (k .chip) →
-      n ≡ excess (k .chip .decoder .params) (length bytes) → takenBy chip n k ≡ controllerData bytes k
+      {c n : ℕ} {m : Command} {chip : Chip} → k .chip .decoder .«in_pixels» ≡ false → k .chip .decoder .cmd ≡ Code c → m ≡ commandIn k →
+      chip ≡ chipTaken m bytes (k .chip) → n ≡ excess (k .chip .decoder .params) (length bytes) → takenBy chip n k ≡ controllerData bytes k
   unfolding taken chipTaken
-  data-for e ec ek en = ap₂ (λ chip n. takenBy chip n k) ek en ∙ ap₂ (λ b f. dataBy b f) (sym e) (sym ec)
+  data-for e ec em ek en =
+      ap₂ (λ chip n. takenBy chip n k) (ek ∙ ap (λ m. chipTaken m bytes (k .chip)) (em ∙ sym (command-for e ec))) en
+      ∙ ap₂ (λ b f. dataBy b f) (sym e) (sym ec)
 
   module _ (m : List ℕ) where
     stored-by : Bool → List ℕ

@@ -9,12 +9,12 @@ use lib.Dec.{eqb}
 use lib.ListN.{length, set, take, drop, drop-of-length-le}
 use lib.Seq.{take-all}
 use Rattle.pixels.specs.Run.{Store, written}
-use Rattle.lists.specs.Entries.{placeOf}
+use Rattle.codes.specs.Codes.{kindOf, commandOf, placeOf}
+use Rattle.codes.proofs.Numbering.{stored-one, none-stored}
 use Rattle.lists.specs.Params.{filled}
 use Rattle.lists.specs.declared.Params.{Params}
 use Rattle.lists.specs.declared.Stored.{Stored}
 use Rattle.lists.specs.declared.TraceRecord.{TraceRecord}
-use Rattle.lists.proofs.Storing.{stored-one, none-stored}
 use Rattle.chip.specs.Apply.{chipTaken}
 use Rattle.chip.specs.declared.InForce.{InForce}
 use Rattle.chip.specs.declared.InForce.the-variants.{Code}
@@ -25,7 +25,7 @@ use Rattle.st7789.specs.Command.{begunAll, controllerReleased, released}
 use Rattle.st7789.specs.Data.{onCurrent, recordData, ran, taken, takenFor, controllerData, storedFor, storedData, dataIn, storesIn}
 use Rattle.st7789.specs.Refusals.{transferRefusal}
 use Rattle.st7789.specs.Entries.{moved, transferred, bareTransferred, transferMemory, refusalWith, transferredWith, memoryWith}
-use Rattle.st7789.specs.Places.{placeFor, storedPlace, cellsFor, endFor, storedTo}
+use Rattle.st7789.specs.Places.{noCommand, commandFor, commandIn, cellsFor, endFor, storedTo}
 use Rattle.st7789.specs.declared.PanelMemory.{PanelMemory}
 use Rattle.st7789.specs.declared.PanelMemory.the-variants.{Lent, Without}
 use Rattle.st7789.specs.declared.Controller.{Controller}
@@ -51,12 +51,15 @@ module _ (t : ℕ) (bytes : List ℕ) (cs : Bool) (s : St7789p3) {dc : Bool} {p 
   moved-commands ed ep ek = rw (ed, ← ep) (release-put cs p ek)
 
 -- The stored list, at its place or nowhere.
-module _ (bytes : List ℕ) (k : Controller) (l : List Stored) {place : ℕ} (ep : place ≡ storedPlace k) where
+module _ (bytes : List ℕ) (k : Controller) (l : List Stored) {place : ℕ} (ep : place ≡ placeOf (commandIn k .kind)) where
   abbrev kept : Params → Stored
   kept p = record { present = true; params = p }
 
   abbrev storedBy : Bool → InForce → List Stored
   storedBy b f = cond b l (storedFor f (filled (k .chip .decoder .params) bytes) l)
+
+  abbrev placeBy : Bool → InForce → ℕ
+  placeBy b f = placeOf (cond b noCommand (commandFor f) .kind)
 
   -- The list in force after data is the one that a stored command keeps.
   pub stored-put :
@@ -68,22 +71,22 @@ module _ (bytes : List ℕ) (k : Controller) (l : List Stored) {place : ℕ} (ep
       ∙ by-kind (k .chip .decoder .«in_pixels») (k .chip .decoder .cmd) (omega (arith, ep, h))
     where
       by-kind :
-          (b : Bool) (f : InForce) → cond b 12 (placeFor f) < 12 →
-          set l (cond b 12 (placeFor f)) (kept (cond b (ran bytes k) (takenFor f bytes k) .chip .decoder .params)) ≡ storedBy b f
+          (b : Bool) (f : InForce) → placeBy b f < 12 →
+          set l (placeBy b f) (kept (cond b (ran bytes k) (takenFor f bytes k) .chip .decoder .params)) ≡ storedBy b f
       by-kind true f h = absurd (omega arith)
       by-kind false InForce.Nothing h = absurd (omega arith)
       by-kind false (Code c) h =
-          ap (λ p. set l (placeOf c) (kept p)) (taken-params c bytes (k .chip))
-          ∙ ap (λ b. cond b (set l (placeOf c) (kept (filled (k .chip .decoder .params) bytes))) l) (sym (stored-one c h))
+          ap (λ p. set l (placeOf (kindOf c)) (kept p)) (taken-params (commandOf c) bytes (k .chip))
+          ∙ ap (λ b. cond b (set l (placeOf (kindOf c)) (kept (filled (k .chip .decoder .params) bytes))) l) (sym (stored-one (kindOf c) h))
 
   pub stored-nowhere : 12 ≤ place → l ≡ storedData bytes k l
   stored-nowhere h = by-kind (k .chip .decoder .«in_pixels») (k .chip .decoder .cmd) (omega (arith, ep, h))
     where
-      by-kind : (b : Bool) (f : InForce) → 12 ≤ cond b 12 (placeFor f) → l ≡ storedBy b f
+      by-kind : (b : Bool) (f : InForce) → 12 ≤ placeBy b f → l ≡ storedBy b f
       by-kind true f h = refl
       by-kind false InForce.Nothing h = refl
       by-kind false (Code c) h =
-          ap (λ b. cond b (set l (placeOf c) (kept (filled (k .chip .decoder .params) bytes))) l) (sym (none-stored c h))
+          ap (λ b. cond b (set l (placeOf (kindOf c)) (kept (filled (k .chip .decoder .params) bytes))) l) (sym (none-stored (kindOf c) h))
 
 pub data-put :
     (bytes : List ℕ) (s : St7789p3) {k : Controller} {st : List Stored} {rs : List TraceRecord} → k ≡ controllerData bytes (s .controller) →

@@ -3,7 +3,10 @@
 use Prim.Native.Nat.{ℕ, _+_}
 use mathlib.Core.Bool.{cond}
 use mathlib.Core.List.{List, map, foldl}
-use lib.Dec.{ltb, eqb}
+use lib.Dec.{ltb}
+use Rattle.codes.specs.Codes.{kindOf, commandOf, is}
+use Rattle.codes.specs.declared.Kind.{Kind}
+use Rattle.codes.specs.declared.Kind.the-variants.{Ramwr}
 use Rattle.lists.specs.Fixed.{Fixed, places, push, pushAll}
 use Rattle.lists.specs.Params.{noParams}
 use Rattle.lists.specs.declared.TraceRecord.{TraceRecord}
@@ -25,14 +28,14 @@ warning c t rule = record { at = t; rule = rule; cmd = c }
 abbrev pub linted : ℕ → ℕ → St7789p3 → Fixed Warning
 linted c t s =
     pushAll places (warningsOf s)
-    (map (warning c t) (rulesOf (brokenBy (s .controller .chip .times) (s .controller .chip .registers .colmod) c t)))
+    (map (warning c t) (rulesOf (brokenBy (s .controller .chip .times) (s .controller .chip .registers .colmod) (kindOf c) t)))
 
 -- "commands + 1", and with 2C "ramwr_count + 1"
-abbrev pub countsBegun : ℕ → Counts → Counts
-countsBegun c n =
+abbrev pub countsBegun : Kind → Counts → Counts
+countsBegun k n =
     record {
       commands = n .commands + 1;
-      «ramwr_count» = cond (eqb c 0x2C) (n .«ramwr_count» + 1) (n .«ramwr_count»);
+      «ramwr_count» = cond (is k Ramwr) (n .«ramwr_count» + 1) (n .«ramwr_count»);
       «pixels_written» = n .«pixels_written»;
       «dropped_params» = n .«dropped_params»;
     }
@@ -51,13 +54,13 @@ logsBegun l =
 abbrev pub controllerBegun : ℕ → ℕ → Controller → Controller
 controllerBegun c t k =
     -- "commands + 1;", and with 2C "ramwr_count + 1."
-    let a : Controller = withCounts (countsBegun c (k .counts)) k in
+    let a : Controller = withCounts (countsBegun (kindOf c) (k .counts)) k in
     -- "parameters emptied, not applied, c in force. 2C: .. 3C: .. Any other: run off, carry dropped."
-    let b : Controller = withChip (inForce c (a .chip)) a in
+    let b : Controller = withChip (inForce (commandOf c) (a .chip)) a in
     -- "Then a trace record if fewer than 128 are used, else none is current."
     let d : Controller = withLogs (logsBegun (b .logs)) b in
     -- "Then effects: 01 reset, .."
-    withChip (effects c t (d .chip)) d
+    withChip (effects (kindOf c) t (d .chip)) d
 
 -- "Beginning command c at time t, in this order:"
 unfoldable pub begun : ℕ → ℕ → St7789p3 → St7789p3

@@ -6,7 +6,7 @@ use lib.ListN.{length, set, getD}
 use Rattle.pixels.specs.Run.{Store}
 use Rattle.pixels.specs.declared.Walk.{Walk}
 use Rattle.pixels.specs.declared.Walked.{Walked}
-use Rattle.lists.specs.Entries.{isStored, placeOf}
+use Rattle.codes.specs.Codes.{kindOf, commandOf, isStored, placeOf}
 use Rattle.lists.specs.Params.{filled, excess}
 use Rattle.lists.specs.declared.Params.{Params}
 use Rattle.lists.specs.declared.Stored.{Stored}
@@ -87,7 +87,7 @@ taken c bytes k =
     -- the rest counted as dropped; ..
     let b : Controller = withCounts (droppedAdded (excess (k .chip .decoder .params) (length bytes)) (a .counts)) a in
     -- then the command applies."
-    withChip (appliedIfDue c (b .chip)) b
+    withChip (appliedIfDue (commandOf c) (b .chip)) b
 
 -- "With no run and no command in force data is lost and uncounted."
 abbrev pub takenFor : InForce → List ℕ → Controller → Controller
@@ -111,7 +111,7 @@ recordData bytes k r =
 -- "A stored command stores its list on every data segment, an empty one too, so the last wins."
 abbrev pub storedFor : InForce → Params → List Stored → List Stored
 storedFor InForce.Nothing p l = l
-storedFor (Code c) p l = cond (isStored c) (set l (placeOf c) (record { present = true; params = p })) l
+storedFor (Code c) p l = cond (isStored (kindOf c)) (set l (placeOf (kindOf c)) (record { present = true; params = p })) l
 
 -- "Data in a run", or "Data with a command and no run": the stored lists.
 abbrev pub storedData : List ℕ → Controller → List Stored → List Stored

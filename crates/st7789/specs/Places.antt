@@ -5,7 +5,10 @@ use mathlib.Core.List.{List, foldl}
 use lib.Dec.{ltb, eqb}
 use Rattle.pixels.specs.Run.{Store, written}
 use Rattle.lists.specs.Fixed.{places}
-use Rattle.lists.specs.Entries.{some, placeOf}
+use Rattle.codes.specs.Codes.{row, commandOf}
+use Rattle.codes.specs.declared.Kind.the-variants.{NoEffect}
+use Rattle.codes.specs.declared.Command.{Command}
+use Rattle.lists.specs.Entries.{some}
 use Rattle.lists.specs.Params.{differ}
 use Rattle.lists.specs.declared.Params.{Params}
 use Rattle.lists.specs.declared.TraceRecord.{TraceRecord}
@@ -50,14 +53,18 @@ judgedFor k stored records r cells bytes =
     cells bytes
     (counted k (heldFor (k .logs .current) (r .«pixel_bytes»))))
 
--- The place of the stored command in force, past the twelve where there is none.
-abbrev pub placeFor : InForce → ℕ
-placeFor InForce.Nothing = 12
-placeFor (Code c) = placeOf c
+-- What stands for a command where there is none.
+abbrev pub noCommand : Command
+noCommand = row 0 NoEffect 0
 
--- The place that data is stored at; in a run there is none.
-abbrev pub storedPlace : Controller → ℕ
-storedPlace k = cond (k .chip .decoder .«in_pixels») 12 (placeFor (k .chip .decoder .cmd))
+-- The command in force.
+abbrev pub commandFor : InForce → Command
+commandFor InForce.Nothing = noCommand
+commandFor (Code c) = commandOf c
+
+-- The command that data is for; in a run there is none.
+abbrev pub commandIn : Controller → Command
+commandIn k = cond (k .chip .decoder .«in_pixels») noCommand (commandFor (k .chip .decoder .cmd))
 
 -- Whether a place is free in the trace or among the warnings.
 abbrev pub anyFree : Logs → Bool

@@ -3,23 +3,29 @@ ghost use mathlib.Core.Path.{_≡_};
 ghost use mathlib.Core.Bool.{cond};
 ghost use Prim.Native.Nat.{_+_, _^_, _≤_, _<_};
 ghost use lib.ListN.{length};
+ghost use Rattle.codes.specs.Codes.{kindOf};
+ghost use Rattle.codes.specs.Table.{table};
+ghost use Rattle.timing.specs.Lint.{brokenBy};
 ghost use Rattle.st7789.specs.Command.{countsBegun, logsBegun, begunRecord, controllerBegun, logsReleased, controllerReleased};
 ghost use Rattle.st7789.specs.Places.{anyFree, controllerBegunAll};
 use crate::Controller;
 use crate::Counts;
 use crate::Logs;
+use codes::Command;
+use codes::Kind;
 use lists::Current;
 use lists::PLACES;
 use lists::Params;
 use lists::TraceRecord;
+use timing::Broken;
 
 impl Counts {
-    fn begin(mut self, c: u8) -> Counts
+    fn begin(mut self, kind: Kind) -> Counts
         requires { ⌜ (self .commands + 1 < 2 ^ 64) × (self .«ramwr_count» + 1 < 2 ^ 64) ⌝ }
-        ensures { λ r. ⌜ r ≡ countsBegun c self ⌝ }
+        ensures { λ r. ⌜ r ≡ countsBegun kind self ⌝ }
     {
         self.commands = self.commands + 1;
-        if c == 0x2C {
+        if kind.is(Kind::Ramwr) {
             self.ramwr_count = self.ramwr_count + 1;
             return self;
         }
@@ -92,13 +98,25 @@ pub(crate) fn begun_record(c: u8, t: u64) -> TraceRecord
 }
 
 impl Controller {
+    // The rules that command c breaks at time t.
+    pub(crate) fn lint(self, codes: &[u16; 256], c: u8, t: u64) -> Broken
+        requires { ⌜ now codes ≡ table ⌝ }
+        ensures { λ r. ⌜ r ≡ brokenBy (self .chip .times) (self .chip .registers .colmod) (kindOf c) t ⌝ }
+    {
+        let command = codes::decode(codes, c);
+        let kind = command.kind;
+        timing::lint(self.chip.times, self.chip.registers.colmod, kind, t)
+    }
+
     // Command c begins at time t, after the lint.
-    pub(crate) fn begin(mut self, c: u8, t: u64) -> Controller
-        requires { ⌜ (self .counts .commands + 1 < 2 ^ 64) × (self .counts .«ramwr_count» + 1 < 2 ^ 64) ⌝ }
+    pub(crate) fn begin(mut self, codes: &[u16; 256], c: u8, t: u64) -> Controller
+        requires { ⌜ (now codes ≡ table) × ((self .counts .commands + 1 < 2 ^ 64) × (self .counts .«ramwr_count» + 1 < 2 ^ 64)) ⌝ }
         ensures { λ r. ⌜ r ≡ controllerBegun c t self ⌝ }
     {
-        let chip = self.chip.begin(c, t);
-        let counts = self.counts.begin(c);
+        let command = codes::decode(codes, c);
+        let kind = command.kind;
+        let chip = self.chip.begin(command, t);
+        let counts = self.counts.begin(kind);
         let logs = self.logs.begin();
         self.chip = chip;
         self.counts = counts;
@@ -107,14 +125,14 @@ impl Controller {
     }
 
     // Each byte begins a command: what becomes of the controller.
-    pub(crate) fn begin_all(self, t: u64, bytes: &[u8]) -> Controller
-        requires { ⌜ (self .counts .commands + length (now bytes) < 2 ^ 64) × (self .counts .«ramwr_count» + length (now bytes) < 2 ^ 64) ⌝ }
+    pub(crate) fn begin_all(self, codes: &[u16; 256], t: u64, bytes: &[u8]) -> Controller
+        requires { ⌜ (now codes ≡ table) × ((self .counts .commands + length (now bytes) < 2 ^ 64) × (self .counts .«ramwr_count» + length (now bytes) < 2 ^ 64)) ⌝ }
         ensures { λ r. ⌜ r ≡ controllerBegunAll t (now (bytes .entry)) self ⌝ }
     {
         let mut controller = self;
         let mut i = 0;
         while i < bytes.len() {
-            controller = controller.begin(bytes[i], t);
+            controller = controller.begin(codes, bytes[i], t);
             i += 1;
         }
         controller

@@ -5,13 +5,26 @@ ghost use Prim.Native.Nat.{_+_, _^_, _<_};
 ghost use lib.ListN.{length};
 ghost use Rattle.pixels.specs.Run.{written};
 ghost use Rattle.st7789.specs.Data.{recordData, controllerData, storesIn};
-ghost use Rattle.st7789.specs.Places.{heldFor, ifCurrent, storedPlace};
+ghost use Rattle.st7789.specs.Places.{heldFor, ifCurrent, noCommand, commandIn};
 ghost use Rattle.st7789.specs.Room.{Countable};
 use crate::Controller;
 use chip::InForce;
+use codes::Command;
+use codes::Kind;
 use lists::Current;
 use lists::Stored;
 use lists::TraceRecord;
+
+// What stands for a command where there is none.
+fn no_command() -> Command
+    ensures { λ r. ⌜ r ≡ noCommand ⌝ }
+{
+    Command {
+        code: 0,
+        kind: Kind::NoEffect,
+        need: 0,
+    }
+}
 
 impl Controller {
     // What stands at the current record's place after data, changed where it is current.
@@ -44,18 +57,21 @@ impl Controller {
         }
     }
 
-    // The place of the stored command that data goes to, 12 where there is none.
-    pub(crate) fn stored_place(self) -> usize
-        ensures { λ r. ⌜ r ≡ storedPlace self ⌝ }
+    // The command that data is for; in a run there is none.
+    pub(crate) fn command(self) -> Command
+        ensures { λ r. ⌜ r ≡ commandIn self ⌝ }
     {
         let decoder = self.chip.decoder;
         if decoder.in_pixels {
-            return 12;
+            return no_command();
         }
         let cmd = decoder.cmd;
         match cmd {
-            InForce::Nothing => 12,
-            InForce::Code(c) => lists::stored_place(c),
+            InForce::Nothing => no_command(),
+            InForce::Code(c) => {
+                let codes = codes::table();
+                codes::decode(&codes, c)
+            }
         }
     }
 
@@ -71,9 +87,9 @@ impl Controller {
         }
     }
 
-    // Pixels in a run, parameters for a command in force, or lost.
-    pub(crate) fn data(mut self, bytes: &[u8], memory: &mut [u16]) -> Controller
-        requires { ⌜ Countable (length (now bytes)) (self .counts) ⌝ }
+    // Pixels in a run, parameters for the command in force, or lost.
+    pub(crate) fn data(mut self, command: Command, bytes: &[u8], memory: &mut [u16]) -> Controller
+        requires { ⌜ (command ≡ commandIn self) × Countable (length (now bytes)) (self .counts) ⌝ }
         ensures { λ r. ⌜ r ≡ controllerData (now (bytes .entry)) self ⌝ }
         ensures { λ r. ⌜ now (memory .exit) ≡ written (now (memory .entry)) (storesIn true (now (bytes .entry)) self) ⌝ }
     {
@@ -98,7 +114,7 @@ impl Controller {
             InForce::Code(c) => {
                 let params = decoder.params;
                 let lost = params.excess(bytes.len());
-                let chip = old_chip.take(c, bytes);
+                let chip = old_chip.take(command, bytes);
                 self.chip = chip;
                 let dropped = self.counts.dropped_params + lost;
                 self.counts.dropped_params = dropped;

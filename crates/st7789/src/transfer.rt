@@ -48,10 +48,11 @@ impl St7789p3 {
             };
         }
         if dc {
-            let place = controller.stored_place();
+            let command = controller.command();
+            let place = command.place();
             let noted = controller.noted(record, bytes);
             let end = panel_memory.end(memory.len());
-            controller = controller.data(bytes, &mut memory[0..end]);
+            controller = controller.data(command, bytes, &mut memory[0..end]);
             let list = controller.stored_list();
             controller = controller.release(cs_release);
             self.controller = controller;
@@ -64,16 +65,12 @@ impl St7789p3 {
                 status,
             };
         }
+        let codes = codes::table();
         let mut i = 0;
         while i < bytes.len() {
             let c = bytes[i];
             let end = controller.logs.reach(i, bytes.len());
-            let broken = timing::lint(
-                controller.chip.times,
-                controller.chip.registers.colmod,
-                c,
-                t,
-            );
+            let broken = controller.lint(&codes, c, t);
             let rules = broken.count();
             let mut place = lists::free(controller.logs.warned, PLACES);
             let mut k = 0;
@@ -90,7 +87,7 @@ impl St7789p3 {
                 k += 1;
             }
             let free = lists::free(controller.logs.traced, PLACES);
-            controller = controller.begin_all(t, &bytes[i..end]);
+            controller = controller.begin_all(&codes, t, &bytes[i..end]);
             i = end;
             if free < PLACES {
                 let begun = begun_record(c, t);

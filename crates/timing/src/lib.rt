@@ -3,6 +3,7 @@ ghost use mathlib.Core.Path.{_≡_};
 ghost use Prim.Native.Nat.{_-_, _≤_};
 ghost use lib.ListN.{length, getD};
 ghost use Rattle.timing.specs.Lint.{soonAfter, breaks1, breaks2, breaks3, brokenBy, only, rulesOf, freshTimes, timesAfter};
+use codes::Kind;
 
 const SLPOUT_SETTLE: u64 = 5_000_000;
 
@@ -42,39 +43,37 @@ fn soon_after(since: Moment, t: u64, limit: u64) -> bool
 }
 
 // A command less than 5 ms after SLPOUT.
-fn command_after_slpout(times: Times, c: u8, t: u64) -> bool
-    ensures { λ r. ⌜ r ≡ breaks1 times c t ⌝ }
+fn command_after_slpout(times: Times, kind: Kind, t: u64) -> bool
+    ensures { λ r. ⌜ r ≡ breaks1 times kind t ⌝ }
 {
     let slpout = times.slpout;
-    let soon = soon_after(slpout, t, SLPOUT_SETTLE);
-    (c != 0x11) & soon
+    !kind.is(Kind::Slpout) & soon_after(slpout, t, SLPOUT_SETTLE)
 }
 
 // SLPIN and SLPOUT less than 120 ms apart.
-fn sleep_cycle_too_fast(times: Times, c: u8, t: u64) -> bool
-    ensures { λ r. ⌜ r ≡ breaks2 times c t ⌝ }
+fn sleep_cycle_too_fast(times: Times, kind: Kind, t: u64) -> bool
+    ensures { λ r. ⌜ r ≡ breaks2 times kind t ⌝ }
 {
     let slpout = times.slpout;
-    match c {
-        0x10 => soon_after(slpout, t, SLEEP_CYCLE),
-        0x11 => soon_after(Moment::At(times.slpin), t, SLEEP_CYCLE),
-        _ => false,
-    }
+    let slept = kind.is(Kind::Slpin) & soon_after(slpout, t, SLEEP_CYCLE);
+    let woke = kind.is(Kind::Slpout) & soon_after(Moment::At(times.slpin), t, SLEEP_CYCLE);
+    slept | woke
 }
 
 // RAMWR or RAMWRC while COLMOD is not 16 bits a pixel.
-fn ramwr_wrong_colmod(colmod: u8, c: u8) -> bool
-    ensures { λ r. ⌜ r ≡ breaks3 colmod c ⌝ }
+fn ramwr_wrong_colmod(colmod: u8, kind: Kind) -> bool
+    ensures { λ r. ⌜ r ≡ breaks3 colmod kind ⌝ }
 {
-    ((c == 0x2C) | (c == 0x3C)) & (colmod != 0x55)
+    kind.starts_run() & (colmod != 0x55)
 }
 
-pub fn lint(times: Times, colmod: u8, c: u8, t: u64) -> Broken
-    ensures answer { λ r. ⌜ r ≡ brokenBy times colmod c t ⌝ }
+// What a command of this kind breaks at time t.
+pub fn lint(times: Times, colmod: u8, kind: Kind, t: u64) -> Broken
+    ensures answer { λ r. ⌜ r ≡ brokenBy times colmod kind t ⌝ }
 {
-    let rule1 = command_after_slpout(times, c, t);
-    let rule2 = sleep_cycle_too_fast(times, c, t);
-    let rule3 = ramwr_wrong_colmod(colmod, c);
+    let rule1 = command_after_slpout(times, kind, t);
+    let rule2 = sleep_cycle_too_fast(times, kind, t);
+    let rule3 = ramwr_wrong_colmod(colmod, kind);
     Broken {
         rule1,
         rule2,
@@ -139,22 +138,30 @@ impl Times {
         }
     }
 
-    // The times after command c at time t.
-    pub fn after(self, c: u8, t: u64) -> Times
-        ensures answer { λ r. ⌜ r ≡ timesAfter self c t ⌝ }
+    // The times after a command of this kind at time t.
+    pub fn after(self, kind: Kind, t: u64) -> Times
+        ensures answer { λ r. ⌜ r ≡ timesAfter self kind t ⌝ }
     {
         let old = self.slpout;
         let slpout = old.anew();
-        match c {
-            0x11 => Times {
-                slpout: Moment::At(t),
-                slpin: self.slpin,
-            },
-            0x01 | 0x10 => Times { slpout, slpin: t },
-            _ => Times {
+        if !kind.has_effect() {
+            return Times {
                 slpout,
                 slpin: self.slpin,
-            },
+            };
+        }
+        if kind.is(Kind::Slpout) {
+            return Times {
+                slpout: Moment::At(t),
+                slpin: self.slpin,
+            };
+        }
+        if kind.is(Kind::Slpin) | kind.is(Kind::Swreset) {
+            return Times { slpout, slpin: t };
+        }
+        Times {
+            slpout,
+            slpin: self.slpin,
         }
     }
 }

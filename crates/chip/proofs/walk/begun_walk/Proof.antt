@@ -1,18 +1,15 @@
-use borrow.Author.Tests.{ne-eqb}
+use borrow.Author.Needs.{needs}
 use Rattle.chip.proofs.walk.begun_walk.Statement.{statement}
 use Rattle.chip.proofs.walk.begun_walk.Tie as tie
 
+begun-carry-requires : tie.Need-begun-carry-requires
+begun-carry-requires c κs = search needs
+
+begun-pointer-requires : tie.Need-begun-pointer-requires
+begun-pointer-requires c κs = search needs
+
 returns : tie.Need-returns
-returns c = simp (c .match .keys1)
-
-returns-2 : tie.Need-returns-2
-returns-2 c = simp (c .match .keys2)
-
-returns-3 : tie.Need-returns-3
-returns-3 c = simp (c .match .keys3)
-
-returns-4 : tie.Need-returns-4
-returns-4 c = simp (ne-eqb _ _ (c .before .match .rest .1), ne-eqb _ _ (c .before .match .rest .0 .1), ne-eqb _ _ (c .before .match .rest .0 .0 .1))
+returns c = simp (c .before .begun-carry .ensures (c .before .before .args .window), c .begun-pointer .ensures)
 
 pub begun-walk-spec : {M : Type 1} → statement M
-begun-walk-spec = tie.close (tie.spec returns returns-2 returns-3 returns-4)
+begun-walk-spec = tie.close (tie.spec begun-carry-requires begun-pointer-requires returns)

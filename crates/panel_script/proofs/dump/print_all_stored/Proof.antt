@@ -7,22 +7,31 @@ use Rattle.panel_script.proofs.dump.print_all_stored.Statement.{stateme
 use Rattle.panel_script.proofs.dump.print_all_stored.Tie as tie
 
 abbrev Inv-loop : tie.InvT-loop
-Inv-loop stored i₀ i = length stored ≡ 12
+Inv-loop stored codes i₀ i = length stored ≡ 12
 
 abbrev μ-loop : tie.MeasureT-loop
-μ-loop stored i₀ i = 12 - i
+μ-loop stored codes i₀ i = 256 - i
+
+table-requires : tie.Need-table-requires Inv-loop μ-loop
+table-requires c κs = search needs
 
 loop-holds : tie.Need-loop-holds Inv-loop μ-loop
 loop-holds c = search (needs, unmapped)
+
+cast-c : tie.Need-cast-c Inv-loop μ-loop
+cast-c c = search needs
+
+decode-requires : tie.Need-decode-requires Inv-loop μ-loop
+decode-requires c κs = search needs
+
+place-requires : tie.Need-place-requires Inv-loop μ-loop
+place-requires c κs = search needs
 
 mul-entry : tie.Need-mul-entry Inv-loop μ-loop
 mul-entry c = search needs
 
 array-copy-out-entry : tie.Need-array-copy-out-entry Inv-loop μ-loop
 array-copy-out-entry c = search needs
-
-code-of-requires : tie.Need-code-of-requires Inv-loop μ-loop
-code-of-requires c κs = search needs
 
 print-stored-requires : tie.Need-print-stored-requires Inv-loop μ-loop
 print-stored-requires c κs = search needs
@@ -45,10 +54,13 @@ print-all-stored-spec =
     (tie.spec
     Inv-loop
     μ-loop
+    table-requires
     loop-holds
+    cast-c
+    decode-requires
+    place-requires
     mul-entry
     array-copy-out-entry
-    code-of-requires
     print-stored-requires
     add-i
     loop-less

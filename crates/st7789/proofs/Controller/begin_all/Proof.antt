@@ -9,20 +9,20 @@ use Rattle.st7789.proofs.Controller.begin_all.Statement.{statement}
 use Rattle.st7789.proofs.Controller.begin_all.Tie as tie
 
 abbrev Inv-loop : tie.InvT-loop
-Inv-loop t bytes controller₀ i₀ controller i =
+Inv-loop codes t bytes controller₀ i₀ controller i =
     Turn (λ k c. controllerBegun c t k) (λ (k : Controller). k .counts) bytes controller₀ controller i
 
 abbrev μ-loop : tie.MeasureT-loop
-μ-loop t bytes controller₀ i₀ controller i = length bytes - i
+μ-loop codes t bytes controller₀ i₀ controller i = length bytes - i
 
 loop-holds : tie.Need-loop-holds Inv-loop μ-loop
-loop-holds c = turn-first (c .before .pre .0) (c .before .pre .1)
+loop-holds c = turn-first (c .before .pre .1 .0) (c .before .pre .1 .1)
 
 shared-slice-read-begin : tie.Need-shared-slice-read-begin Inv-loop μ-loop
 shared-slice-read-begin c = omega arith
 
 begin-requires : tie.Need-begin-requires Inv-loop μ-loop
-begin-requires c κs = turn-room (c .before .before .loop .inv) (c .before .loop-test .taken) refl
+begin-requires c κs = (c .before .before .before .before .pre .0, turn-room (c .before .before .loop .inv) (c .before .loop-test .taken) refl)
 
 add-i : tie.Need-add-i Inv-loop μ-loop
 add-i c = omega (arith, c .before .before .before .loop .inv .few)

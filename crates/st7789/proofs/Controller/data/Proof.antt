@@ -14,7 +14,7 @@ add-pixels c =
     let a = c .before .before .before .before .before .before .before .before .before .before .before .before .before .before .args in
     let w = c .before .before .before .before .before .before .write-pixels in
     let site = c .before .before .before .before .before .before .before .before .site in
-    pixels-fit (a .self) (a .bytes .now) (c .before .before .before .before .before .before .before .before .before .before .before .before .before .before .pre) _ (walked-at (a .self) (a .bytes .now) (site .ensures) (w .ensures .0))
+    pixels-fit (a .self) (a .bytes .now) (c .before .before .before .before .before .before .before .before .before .before .before .before .before .before .pre .1) _ (walked-at (a .self) (a .bytes .now) (site .ensures) (w .ensures .0))
 
 same-length : tie.Need-same-length
 same-length c = search needs
@@ -40,13 +40,13 @@ take-requires : tie.Need-take-requires
 take-requires c κs = search needs
 
 add-dropped : tie.Need-add-dropped
-add-dropped c = let a = c .before .before .before .before .before .before .before .before .before .before .before .before .args in dropped-fit (a .self) (a .bytes .now) (c .before .before .before .before .before .before .before .before .before .before .before .before .pre) _ (c .before .before .excess .ensures)
+add-dropped c = let a = c .before .before .before .before .before .before .before .before .before .before .before .before .args in dropped-fit (a .self) (a .bytes .now) (c .before .before .before .before .before .before .before .before .before .before .before .before .pre .1) _ (c .before .before .excess .ensures)
 
 returns-2 : tie.Need-returns-2
 returns-2 c = let a = c .before .before .before .before .before .before .before .args in (data-lost (a .self) (a .bytes .now) (c .before .before .if1 .left) (c .enum-told .given .1), stores-none (a .self) (a .bytes .now) (a .memory .now) (c .before .before .if1 .left))
 
 returns-3 : tie.Need-returns-3
-returns-3 c = let a = c .before .before .before .before .before .before .before .before .before .before .before .before .before .args in (data-for (a .self) (a .bytes .now) (c .before .before .before .before .before .before .before .before .if1 .left) (c .before .before .before .before .before .before .cmd .given .1) (c .before .before .take .ensures) (c .before .before .before .excess .ensures), stores-none (a .self) (a .bytes .now) (a .memory .now) (c .before .before .before .before .before .before .before .before .if1 .left))
+returns-3 c = let a = c .before .before .before .before .before .before .before .before .before .before .before .before .before .args in (data-for (a .self) (a .bytes .now) (c .before .before .before .before .before .before .before .before .if1 .left) (c .before .before .before .before .before .before .cmd .given .1) (c .before .before .before .before .before .before .before .before .before .before .before .before .before .pre .0) (c .before .before .take .ensures) (c .before .before .before .excess .ensures), stores-none (a .self) (a .bytes .now) (a .memory .now) (c .before .before .before .before .before .before .before .before .if1 .left))
 
 pub data-spec : {M : Type 1} → statement M
 data-spec =

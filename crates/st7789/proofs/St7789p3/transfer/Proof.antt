@@ -5,6 +5,8 @@ use native.Mathlib.Omega.{arith}
 use borrow.Author.Needs.{needs}
 use borrow.Author.Tests.{not-true, not-false}
 use lib.ListN.{length, take}
+use Rattle.codes.specs.Codes.{placeOf}
+use Rattle.codes.specs.declared.Command.{Command}
 use Rattle.lists.specs.Entries.{recordLong}
 use Rattle.lists.specs.declared.TraceRecord.{TraceRecord}
 use Rattle.lists.proofs.TraceRecord as traceRecord
@@ -34,19 +36,19 @@ abbrev μ-loop : tie.MeasureT-loop
     used - j
 
 abbrev Inv-loop3 : tie.InvT-loop3
-Inv-loop3 t dc bytes cs-release memory self₀ controller₀ stored-long used long j at cells status i c end broken rules place₀ k₀ self controller place k =
+Inv-loop3 t dc bytes cs-release memory self₀ controller₀ stored-long used long j at cells status codes i c end broken rules place₀ k₀ self controller place k =
     Kept (warning c t) (rulesOf broken) (withController controller₀ self₀) (withController controller self) k × (place ≡ min (controller .logs .warned) 128)
 
 abbrev μ-loop3 : tie.MeasureT-loop3
-μ-loop3 t dc bytes cs-release memory self₀ controller₀ stored-long used long j at cells status i c end broken rules place₀ k₀ self controller place k =
+μ-loop3 t dc bytes cs-release memory self₀ controller₀ stored-long used long j at cells status codes i c end broken rules place₀ k₀ self controller place k =
     rules - k
 
 abbrev Inv-loop2 : tie.InvT-loop2
-Inv-loop2 t dc bytes cs-release memory self₀ controller₀ stored-long used long j at cells status i₀ self controller i =
+Inv-loop2 t dc bytes cs-release memory self₀ controller₀ stored-long used long j at cells status codes i₀ self controller i =
     PanelTurn t bytes self₀ (withController controller self) i
 
 abbrev μ-loop2 : tie.MeasureT-loop2
-μ-loop2 t dc bytes cs-release memory self₀ controller₀ stored-long used long j at cells status i₀ self controller i =
+μ-loop2 t dc bytes cs-release memory self₀ controller₀ stored-long used long j at cells status codes i₀ self controller i =
     length bytes - i
 
 -- The refusal, once the tests are done; and what is known where they passed.
@@ -111,12 +113,14 @@ accepted-requires c κs = search needs
 returns : tie.Need-returns Inv-loop μ-loop Inv-loop3 μ-loop3 Inv-loop2 μ-loop2
 returns c = let a = c .before .before .before .before .before .before .before .before .before .before .before .before .before .before .args in let s = a .t1 in let e = told (c .before .before) in let o = c .before .accepted .ensures in let n = not-true (c .before .accepted .result) (c .if1 .taken) in answer-with (a .«panel-memory») (a .t) (a .dc) (a .bytes .now) (a .«cs-release») (a .memory .now) s e (old-left e o _ n) (old-left e o _ n)
 
-stored-place-requires :
-    tie.Need-stored-place-requires Inv-loop μ-loop Inv-loop3 μ-loop3 Inv-loop2 μ-loop2
-stored-place-requires c κs = search needs
+command-requires : tie.Need-command-requires Inv-loop μ-loop Inv-loop3 μ-loop3 Inv-loop2 μ-loop2
+command-requires c κs = search needs
+
+place-requires-2 : tie.Need-place-requires-2 Inv-loop μ-loop Inv-loop3 μ-loop3 Inv-loop2 μ-loop2
+place-requires-2 c κs = search needs
 
 noted-requires : tie.Need-noted-requires Inv-loop μ-loop Inv-loop3 μ-loop3 Inv-loop2 μ-loop2
-noted-requires c κs = let r = roomy (c .before .before) in let s = c .before .before .before .before .before .before .before .before .before .before .before .before .before .before .before .before .args .t1 in rw (held-here (s .controller .logs .current) (s .records) _ (r .current) (c .before .before .before .before .before .before .before .place .ensures .0)) (r .held)
+noted-requires c κs = let r = roomy (c .before .before .before) in let s = c .before .before .before .before .before .before .before .before .before .before .before .before .before .before .before .before .before .args .t1 in rw (held-here (s .controller .logs .current) (s .records) _ (r .current) (c .before .before .before .before .before .before .before .before .place .ensures .0)) (r .held)
 
 end-requires : tie.Need-end-requires Inv-loop μ-loop Inv-loop3 μ-loop3 Inv-loop2 μ-loop2
 end-requires c κs = search needs
@@ -128,10 +132,10 @@ part-data-start : tie.Need-part-data-start Inv-loop μ-loop Inv-loop3 μ-loop3 I
 part-data-start c = search needs
 
 part-data-end : tie.Need-part-data-end Inv-loop μ-loop Inv-loop3 μ-loop3 Inv-loop2 μ-loop2
-part-data-end c = let a = c .before .before .before .before .before .before .before .before .before .before .before .before .before .before .before .before .before .before .args in omega (arith, c .end .ensures, end-within (a .«panel-memory») (length (a .memory .now)))
+part-data-end c = let a = c .before .before .before .before .before .before .before .before .before .before .before .before .before .before .before .before .before .before .before .args in omega (arith, c .end .ensures, end-within (a .«panel-memory») (length (a .memory .now)))
 
 data-requires : tie.Need-data-requires Inv-loop μ-loop Inv-loop3 μ-loop3 Inv-loop2 μ-loop2
-data-requires c κs = roomy (c .before .before .before .before .before) .counts
+data-requires c κs = (c .before .before .before .before .command .ensures, roomy (c .before .before .before .before .before .before) .counts)
 
 stored-list-requires :
     tie.Need-stored-list-requires Inv-loop μ-loop Inv-loop3 μ-loop3 Inv-loop2 μ-loop2
@@ -141,11 +145,11 @@ release-requires : tie.Need-release-requires Inv-loop μ-loop Inv-loop3 μ-loop3
 release-requires c κs = search needs
 
 mul-noted : tie.Need-mul-noted Inv-loop μ-loop Inv-loop3 μ-loop3 Inv-loop2 μ-loop2
-mul-noted c = omega (arith, c .before .before .before .before .before .before .before .before .before .before .before .before .before .before .before .place .ensures .1)
+mul-noted c = omega (arith, c .before .before .before .before .before .before .before .before .before .before .before .before .before .before .before .before .place .ensures .1)
 
 element-set-from-noted :
     tie.Need-element-set-from-noted Inv-loop μ-loop Inv-loop3 μ-loop3 Inv-loop2 μ-loop2
-element-set-from-noted c = omega (arith, c .before .before .before .before .before .before .before .before .before .before .before .before .before .before .before .place .ensures .1)
+element-set-from-noted c = omega (arith, c .before .before .before .before .before .before .before .before .before .before .before .before .before .before .before .before .place .ensures .1)
 
 mul-list : tie.Need-mul-list Inv-loop μ-loop Inv-loop3 μ-loop3 Inv-loop2 μ-loop2
 mul-list c = search needs
@@ -158,16 +162,19 @@ same-length : tie.Need-same-length Inv-loop μ-loop Inv-loop3 μ-loop3 Inv-loop2
 same-length c = search needs
 
 returns-2 : tie.Need-returns-2 Inv-loop μ-loop Inv-loop3 μ-loop3 Inv-loop2 μ-loop2
-returns-2 c = let a = c .before .before .before .before .before .before .before .before .before .before .before .before .before .before .before .before .before .before .before .before .before .before .before .before .before .args in let s = a .t1 in let e = told (c .before .before .before .before .before .before .before .before .before .before .before .before .before) in let o = c .before .before .before .before .before .before .before .before .before .before .before .before .accepted .ensures in let y = passed (c .before .before .before .before .before .before .before .before .before .before .before) in let d = c .before .before .before .before .before .«data» .ensures in answer-with (a .«panel-memory») (a .t) (a .dc) (a .bytes .now) (a .«cs-release») (a .memory .now) s e (new-left e o _ y (moved-data (a .t) (a .bytes .now) (a .«cs-release») s (c .before .before .before .before .before .before .before .before .before .before .if2 .taken) (data-put (a .bytes .now) s (d .0) (stored-put (a .bytes .now) (s .controller) (s .stored) (c .before .before .before .before .before .before .before .before .before .stored-place .ensures) (c .if3 .taken) (d .0) (c .before .before .stored-list .ensures)) (put-here (recordData (a .bytes .now) (s .controller)) (s .controller .logs .current) (s .records) _ _ (roomy (c .before .before .before .before .before .before .before .before .before .before .before) .current) (c .before .before .before .before .before .before .before .before .before .before .before .before .before .before .before .before .place .ensures .0) (c .before .before .before .before .before .before .before .before .noted .ensures))) (c .before .release .ensures))) (new-left e o _ y (stored-data (a .«panel-memory») (a .bytes .now) (a .memory .now) (s .controller) (c .before .before .before .before .before .before .before .end .ensures) (c .before .before .before .before .before .before .before .before .before .before .if2 .taken) (d .1)))
+returns-2 c = let a = c .before .before .before .before .before .before .before .before .before .before .before .before .before .before .before .before .before .before .before .before .before .before .before .before .before .before .args in let s = a .t1 in let e = told (c .before .before .before .before .before .before .before .before .before .before .before .before .before .before) in let o = c .before .before .before .before .before .before .before .before .before .before .before .before .before .accepted .ensures in let y = passed (c .before .before .before .before .before .before .before .before .before .before .before .before) in let d = c .before .before .before .before .before .«data» .ensures in answer-with (a .«panel-memory») (a .t) (a .dc) (a .bytes .now) (a .«cs-release») (a .memory .now) s e (new-left e o _ y (moved-data (a .t) (a .bytes .now) (a .«cs-release») s (c .before .before .before .before .before .before .before .before .before .before .before .if2 .taken) (data-put (a .bytes .now) s (d .0) (stored-put (a .bytes .now) (s .controller) (s .stored) (c .before .before .before .before .before .before .before .before .before .place2 .ensures ∙ ap (λ (m : Command). placeOf (m .kind)) (c .before .before .before .before .before .before .before .before .before .before .command .ensures)) (c .if3 .taken) (d .0) (c .before .before .stored-list .ensures)) (put-here (recordData (a .bytes .now) (s .controller)) (s .controller .logs .current) (s .records) _ _ (roomy (c .before .before .before .before .before .before .before .before .before .before .before .before) .current) (c .before .before .before .before .before .before .before .before .before .before .before .before .before .before .before .before .before .place .ensures .0) (c .before .before .before .before .before .before .before .before .noted .ensures))) (c .before .release .ensures))) (new-left e o _ y (stored-data (a .«panel-memory») (a .bytes .now) (a .memory .now) (s .controller) (c .before .before .before .before .before .before .before .end .ensures) (c .before .before .before .before .before .before .before .before .before .before .before .if2 .taken) (d .1)))
 
 same-length-2 : tie.Need-same-length-2 Inv-loop μ-loop Inv-loop3 μ-loop3 Inv-loop2 μ-loop2
 same-length-2 c = search needs
 
 returns-3 : tie.Need-returns-3 Inv-loop μ-loop Inv-loop3 μ-loop3 Inv-loop2 μ-loop2
-returns-3 c = let a = c .before .before .before .before .before .before .before .before .before .before .before .before .before .before .before .before .before .before .before .before .before .before .before .before .before .args in let s = a .t1 in let e = told (c .before .before .before .before .before .before .before .before .before .before .before .before .before) in let o = c .before .before .before .before .before .before .before .before .before .before .before .before .accepted .ensures in let y = passed (c .before .before .before .before .before .before .before .before .before .before .before) in let d = c .before .before .before .before .before .«data» .ensures in answer-with (a .«panel-memory») (a .t) (a .dc) (a .bytes .now) (a .«cs-release») (a .memory .now) s e (new-left e o _ y (moved-data (a .t) (a .bytes .now) (a .«cs-release») s (c .before .before .before .before .before .before .before .before .before .before .if2 .taken) (data-put (a .bytes .now) s (d .0) (stored-nowhere (a .bytes .now) (s .controller) (s .stored) (c .before .before .before .before .before .before .before .before .before .stored-place .ensures) (c .if3 .left)) (put-here (recordData (a .bytes .now) (s .controller)) (s .controller .logs .current) (s .records) _ _ (roomy (c .before .before .before .before .before .before .before .before .before .before .before) .current) (c .before .before .before .before .before .before .before .before .before .before .before .before .before .before .before .before .place .ensures .0) (c .before .before .before .before .before .before .before .before .noted .ensures))) (c .before .release .ensures))) (new-left e o _ y (stored-data (a .«panel-memory») (a .bytes .now) (a .memory .now) (s .controller) (c .before .before .before .before .before .before .before .end .ensures) (c .before .before .before .before .before .before .before .before .before .before .if2 .taken) (d .1)))
+returns-3 c = let a = c .before .before .before .before .before .before .before .before .before .before .before .before .before .before .before .before .before .before .before .before .before .before .before .before .before .before .args in let s = a .t1 in let e = told (c .before .before .before .before .before .before .before .before .before .before .before .before .before .before) in let o = c .before .before .before .before .before .before .before .before .before .before .before .before .before .accepted .ensures in let y = passed (c .before .before .before .before .before .before .before .before .before .before .before .before) in let d = c .before .before .before .before .before .«data» .ensures in answer-with (a .«panel-memory») (a .t) (a .dc) (a .bytes .now) (a .«cs-release») (a .memory .now) s e (new-left e o _ y (moved-data (a .t) (a .bytes .now) (a .«cs-release») s (c .before .before .before .before .before .before .before .before .before .before .before .if2 .taken) (data-put (a .bytes .now) s (d .0) (stored-nowhere (a .bytes .now) (s .controller) (s .stored) (c .before .before .before .before .before .before .before .before .before .place2 .ensures ∙ ap (λ (m : Command). placeOf (m .kind)) (c .before .before .before .before .before .before .before .before .before .before .command .ensures)) (c .if3 .left)) (put-here (recordData (a .bytes .now) (s .controller)) (s .controller .logs .current) (s .records) _ _ (roomy (c .before .before .before .before .before .before .before .before .before .before .before .before) .current) (c .before .before .before .before .before .before .before .before .before .before .before .before .before .before .before .before .before .place .ensures .0) (c .before .before .before .before .before .before .before .before .noted .ensures))) (c .before .release .ensures))) (new-left e o _ y (stored-data (a .«panel-memory») (a .bytes .now) (a .memory .now) (s .controller) (c .before .before .before .before .before .before .before .end .ensures) (c .before .before .before .before .before .before .before .before .before .before .before .if2 .taken) (d .1)))
+
+table-requires : tie.Need-table-requires Inv-loop μ-loop Inv-loop3 μ-loop3 Inv-loop2 μ-loop2
+table-requires c κs = search needs
 
 loop2-holds : tie.Need-loop2-holds Inv-loop μ-loop Inv-loop3 μ-loop3 Inv-loop2 μ-loop2
-loop2-holds c = let r = roomy (c .before) .counts in turn-first (r .commands) (r .ramwrs)
+loop2-holds c = let r = roomy (c .before .before) .counts in turn-first (r .commands) (r .ramwrs)
 
 shared-slice-read-c :
     tie.Need-shared-slice-read-c Inv-loop μ-loop Inv-loop3 μ-loop3 Inv-loop2 μ-loop2
@@ -177,7 +184,7 @@ reach-requires : tie.Need-reach-requires Inv-loop μ-loop Inv-loop3 μ-loop3 Inv
 reach-requires c κs = search needs
 
 lint-requires : tie.Need-lint-requires Inv-loop μ-loop Inv-loop3 μ-loop3 Inv-loop2 μ-loop2
-lint-requires c κs = search needs
+lint-requires c κs = c .before .before .before .before .before .table .ensures
 
 count-requires : tie.Need-count-requires Inv-loop μ-loop Inv-loop3 μ-loop3 Inv-loop2 μ-loop2
 count-requires c κs = search needs
@@ -217,20 +224,22 @@ free-requires-4 : tie.Need-free-requires-4 Inv-loop μ-loop Inv-loop3 μ-loop3 I
 free-requires-4 c κs = search needs
 
 sub-begin-all : tie.Need-sub-begin-all Inv-loop μ-loop Inv-loop3 μ-loop3 Inv-loop2 μ-loop2
-sub-begin-all c = omega (arith, c .before .before .before .before .before .before .reach .ensures .1 .0)
+sub-begin-all c = omega (arith, c .before .before .before .before .before .before .before .before .reach .ensures .1 .0)
 
 part-begin-all-start :
     tie.Need-part-begin-all-start Inv-loop μ-loop Inv-loop3 μ-loop3 Inv-loop2 μ-loop2
-part-begin-all-start c = omega (arith, c .before .before .before .before .before .before .reach .ensures .1 .0)
+part-begin-all-start c = omega (arith, c .before .before .before .before .before .before .before .before .reach .ensures .1 .0)
 
 part-begin-all-end :
     tie.Need-part-begin-all-end Inv-loop μ-loop Inv-loop3 μ-loop3 Inv-loop2 μ-loop2
-part-begin-all-end c = omega (arith, c .before .before .before .before .before .before .reach .ensures .1 .1)
+part-begin-all-end c = omega (arith, c .before .before .before .before .before .before .before .before .reach .ensures .1 .1)
 
 begin-all-requires :
     tie.Need-begin-all-requires Inv-loop μ-loop Inv-loop3 μ-loop3 Inv-loop2 μ-loop2
-begin-all-requires c κs =
-    part-room (c .before .before .before .before .before .before .before .before .before .before .before .before .before .before .before .before .before .before .before .before .before .before .before .before .before .before .args .t) (c .before .before .before .before .before .before .before .before .before .before .loop2 .inv) (c .before .before .before .before .before .before .before .reach .ensures .1 .1) (kept-counts (c .before .before .before .loop3 .inv .0))
+begin-all-requires c κs = (
+  c .before .before .before .before .before .before .before .before .before .before .before .before .before .table .ensures,
+  part-room (c .before .before .before .before .before .before .before .before .before .before .before .before .before .before .before .before .before .before .before .before .before .before .before .before .before .before .before .before .before .args .t) (c .before .before .before .before .before .before .before .before .before .before .before .before .loop2 .inv) (c .before .before .before .before .before .before .before .before .before .reach .ensures .1 .1) (kept-counts (c .before .before .before .before .loop3 .inv .0)),
+)
 
 begun-record-requires :
     tie.Need-begun-record-requires Inv-loop μ-loop Inv-loop3 μ-loop3 Inv-loop2 μ-loop2
@@ -244,26 +253,26 @@ element-set-from-begun :
 element-set-from-begun c = search needs
 
 loop2-less : tie.Need-loop2-less Inv-loop μ-loop Inv-loop3 μ-loop3 Inv-loop2 μ-loop2
-loop2-less c = omega (arith, c .before .before .before .before .before .before .before .before .before .before .before .before .loop2-test .taken, c .before .before .before .before .before .before .before .before .before .before .reach .ensures .1 .0)
+loop2-less c = omega (arith, c .before .before .before .before .before .before .before .before .before .before .before .before .before .before .loop2-test .taken, c .before .before .before .before .before .before .before .before .before .before .before .before .reach .ensures .1 .0)
 
 loop2-again : tie.Need-loop2-again Inv-loop μ-loop Inv-loop3 μ-loop3 Inv-loop2 μ-loop2
 loop2-again c =
-    let l = c .before .before .before .before .before .before .before .before .before .before .before .before .before .loop2 in
-    let u = c .before .before .before .before .before .before .loop3 in
-    let kept = kept-last (u .inv .0) (u .inv .1) (c .before .before .before .before .before .before .before .before .count .ensures) (c .before .before .before .before .before .loop3-test .left) in
-    panel-part _ (l .inv) (c .before .before .before .before .before .before .before .before .before .before .before .before .loop2-test .taken) (c .before .before .before .before .before .before .before .before .before .before .reach .ensures .0) (c .before .before .before .before .before .before .before .before .before .lint .ensures) kept (c .before .before .begin-all .ensures)
-    (record-put (withController (u .controller) (u .self)) (c .before .before .before .before .free4 .ensures) (c .before .if4 .taken) (c .begun-record .ensures))
+    let l = c .before .before .before .before .before .before .before .before .before .before .before .before .before .before .before .loop2 in
+    let u = c .before .before .before .before .before .before .before .loop3 in
+    let kept = kept-last (u .inv .0) (u .inv .1) (c .before .before .before .before .before .before .before .before .before .count .ensures) (c .before .before .before .before .before .before .loop3-test .left) in
+    panel-part _ (l .inv) (c .before .before .before .before .before .before .before .before .before .before .before .before .before .before .loop2-test .taken) (c .before .before .before .before .before .before .before .before .before .before .before .before .reach .ensures .0) (c .before .before .before .before .before .before .before .before .before .before .lint .ensures) kept (c .before .before .begin-all .ensures)
+    (record-put (withController (u .controller) (u .self)) (c .before .before .before .before .before .free4 .ensures) (c .before .if4 .taken) (c .begun-record .ensures))
 
 loop2-less-2 : tie.Need-loop2-less-2 Inv-loop μ-loop Inv-loop3 μ-loop3 Inv-loop2 μ-loop2
-loop2-less-2 c = omega (arith, c .before .before .before .before .before .before .before .before .before .before .before .loop2-test .taken, c .before .before .before .before .before .before .before .before .before .reach .ensures .1 .0)
+loop2-less-2 c = omega (arith, c .before .before .before .before .before .before .before .before .before .before .before .before .before .loop2-test .taken, c .before .before .before .before .before .before .before .before .before .before .before .reach .ensures .1 .0)
 
 loop2-again-2 : tie.Need-loop2-again-2 Inv-loop μ-loop Inv-loop3 μ-loop3 Inv-loop2 μ-loop2
 loop2-again-2 c =
-    let l = c .before .before .before .before .before .before .before .before .before .before .before .before .loop2 in
-    let u = c .before .before .before .before .before .loop3 in
-    let kept = kept-last (u .inv .0) (u .inv .1) (c .before .before .before .before .before .before .before .count .ensures) (c .before .before .before .before .loop3-test .left) in
-    panel-part _ (l .inv) (c .before .before .before .before .before .before .before .before .before .before .before .loop2-test .taken) (c .before .before .before .before .before .before .before .before .before .reach .ensures .0) (c .before .before .before .before .before .before .before .before .lint .ensures) kept (c .before .begin-all .ensures)
-    (record-full (withController (u .controller) (u .self)) (c .before .before .before .free4 .ensures) _ (c .if4 .left))
+    let l = c .before .before .before .before .before .before .before .before .before .before .before .before .before .before .loop2 in
+    let u = c .before .before .before .before .before .before .loop3 in
+    let kept = kept-last (u .inv .0) (u .inv .1) (c .before .before .before .before .before .before .before .before .count .ensures) (c .before .before .before .before .before .loop3-test .left) in
+    panel-part _ (l .inv) (c .before .before .before .before .before .before .before .before .before .before .before .before .before .loop2-test .taken) (c .before .before .before .before .before .before .before .before .before .before .before .reach .ensures .0) (c .before .before .before .before .before .before .before .before .before .lint .ensures) kept (c .before .begin-all .ensures)
+    (record-full (withController (u .controller) (u .self)) (c .before .before .before .before .free4 .ensures) _ (c .if4 .left))
 
 release-requires-2 :
     tie.Need-release-requires-2 Inv-loop μ-loop Inv-loop3 μ-loop3 Inv-loop2 μ-loop2
@@ -271,12 +280,12 @@ release-requires-2 c κs = search needs
 
 returns-4 : tie.Need-returns-4 Inv-loop μ-loop Inv-loop3 μ-loop3 Inv-loop2 μ-loop2
 returns-4 c =
-    let a = c .before .before .before .before .before .before .before .before .before .before .before .before .before .before .before .before .before .before .args in
+    let a = c .before .before .before .before .before .before .before .before .before .before .before .before .before .before .before .before .before .before .before .args in
     let s = a .t1 in
-    let e = told (c .before .before .before .before .before .before) in
-    let o = c .before .before .before .before .before .accepted .ensures in
-    let y = passed (c .before .before .before .before) in
-    let commands = c .before .before .before .if2 .left in
+    let e = told (c .before .before .before .before .before .before .before) in
+    let o = c .before .before .before .before .before .before .accepted .ensures in
+    let y = passed (c .before .before .before .before .before) in
+    let commands = c .before .before .before .before .if2 .left in
     answer-with (a .«panel-memory») (a .t) (a .dc) (a .bytes .now) (a .«cs-release») (a .memory .now) s e
     (new-left e o _ y
     (moved-commands (a .t) (a .bytes .now) (a .«cs-release») s commands (turn-last (c .before .before .loop2 .inv) (c .before .loop2-test .left)) (c .release2 .ensures)))
@@ -307,7 +316,8 @@ transfer-spec =
     judged-requires
     accepted-requires
     returns
-    stored-place-requires
+    command-requires
+    place-requires-2
     noted-requires
     end-requires
     sub-data
@@ -324,6 +334,7 @@ transfer-spec =
     returns-2
     same-length-2
     returns-3
+    table-requires
     loop2-holds
     shared-slice-read-c
     reach-requires

@@ -27,6 +27,8 @@ pub struct Coverage {
     pixels: Fates,
     /// Stored pixels under each MADCTL value.
     madctl: BTreeMap<u8, u64>,
+    /// Commands begun, by their byte.
+    codes: BTreeMap<u8, u64>,
     /// Data segments of a run that leave a byte waiting, and those that find one waiting.
     left_waiting: u64,
     found_waiting: u64,
@@ -217,6 +219,11 @@ impl Coverage {
             self.left_waiting += u64::from(length % 2 == 1);
             self.found_waiting += u64::from(waiting);
         }
+        if !dc {
+            for code in bytes {
+                *self.codes.entry(*code).or_default() += 1;
+            }
+        }
         if self.names {
             self.name_transfer(panel, dc, bytes, release, fate);
         }
@@ -324,6 +331,7 @@ impl Coverage {
         sum(&mut self.others, other.others);
         sum(&mut self.refusals, other.refusals);
         sum(&mut self.madctl, other.madctl);
+        sum(&mut self.codes, other.codes);
         for (rule, count) in other.warnings.iter().enumerate() {
             self.warnings[rule] += count;
         }
@@ -382,6 +390,12 @@ impl Coverage {
         line(
             &mut out,
             format_args!("MADCTL values under which a pixel was stored: {values} of 256"),
+        );
+        let commands: u64 = self.codes.values().sum();
+        let codes = self.codes.len();
+        line(
+            &mut out,
+            format_args!("commands begun {commands}, by {codes} of 256 bytes"),
         );
         line(
             &mut out,

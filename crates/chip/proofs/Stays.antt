@@ -1,4 +1,5 @@
--- What a begun command leaves as it is: the registers where it has no effect, and the walk's parts.
+-- What a begun command leaves as it is: the registers where it has no effect, the walk's parts, and what comes to the whole chip.
+use Prim.Native.Nat.{ℕ}
 use mathlib.Core.Path.{_≡_, refl, sym, ap, ap₂, _∙_}
 use mathlib.Core.Bool.{Bool, true, false, cond}
 use Rattle.geometry.specs.declared.Window.{Window}
@@ -8,8 +9,13 @@ use Rattle.codes.specs.Codes.{is, hasEffect}
 use Rattle.codes.specs.declared.Kind.{Kind}
 use Rattle.codes.specs.declared.Kind.the-variants.{Swreset, Slpin, Slpout, Invoff, Invon, Dispoff, Dispon, Ramwr, Ramwrc}
 use Rattle.codes.proofs.Numbering.{idle}
-use Rattle.chip.specs.Begin.{origin, registersBegun, walkBegun, walkReset}
+use Rattle.codes.specs.declared.Command.{Command}
+use Rattle.timing.specs.Lint.{timesAfter}
+use Rattle.timing.specs.declared.Times.{Times}
+use Rattle.chip.specs.Begin.{fullWindow, origin, decoderBegun, inForce, effects, registersBegun, walkBegun, walkReset}
 use Rattle.chip.specs.declared.Registers.{Registers}
+use Rattle.chip.specs.declared.Decoder.{Decoder}
+use Rattle.chip.specs.declared.Chip.{Chip}
 
 pub registers-stay : (k : Kind) (g : Registers) → hasEffect k ≡ false → g ≡ registersBegun k g
 registers-stay k g e =
@@ -43,3 +49,37 @@ module _ (k : Kind) (w : Window) (v : Walk) where
       go : (on : Bool) → v .pointer ≡ walkBy false false on .pointer
       go true = refl
       go false = refl
+
+  pub carry-empty : v .carry ≡ Empty → walkReset k (walkBegun k w v) .carry ≡ Empty
+  carry-empty e = go (is k Swreset) (is k Ramwr) (is k Ramwrc)
+    where
+      go : (reset start on : Bool) → walkBy reset start on .carry ≡ Empty
+      go true start on = refl
+      go false true on = refl
+      go false false true = e
+      go false false false = refl
+
+  walk-kept : is k Swreset ≡ false → is k Ramwr ≡ false → v .carry ≡ Empty → walkReset k (walkBegun k w v) ≡ v
+  walk-kept e f h = ap₂ (λ p c. record { pointer = p; carry = c }) (sym (pointer-kept e f)) (carry-empty h ∙ sym h)
+
+times-stay : (k : Kind) (times : Times) (t : ℕ) → hasEffect k ≡ false → timesAfter times k t ≡ times
+unfolding timesAfter
+times-stay k times t e = rw (idle k Slpout e refl, idle k Slpin e refl, idle k Swreset e refl) refl
+
+same-chip :
+    {d : Decoder} {g g′ : Registers} {w w′ : Window} {v v′ : Walk} {n n′ : Times} → g ≡ g′ → w ≡ w′ → v ≡ v′ → n ≡ n′ →
+    _≡_ {A = Chip} (record { registers = g; window = w; walk = v; decoder = d; times = n })
+    (record { registers = g′; window = w′; walk = v′; decoder = d; times = n′ })
+same-chip e1 e2 e3 e4 = cc
+
+-- A command without an effect that is no 2C comes in force and does no more, where no byte waits.
+pub in-force-alone :
+    (m : Command) (t : ℕ) (s : Chip) → hasEffect (m .kind) ≡ false → is (m .kind) Ramwr ≡ false → s .walk .carry ≡ Empty →
+    effects (m .kind) t (inForce m s)
+    ≡ record { registers = s .registers; window = s .window; walk = s .walk; decoder = decoderBegun m; times = s .times }
+in-force-alone m t s e f h =
+    let reset = idle (m .kind) Swreset e refl in
+    same-chip (sym (registers-stay (m .kind) (s .registers) e))
+    (ap (λ b. cond b (fullWindow (s .registers .madctl)) (s .window)) reset)
+    (walk-kept (m .kind) (s .window) (s .walk) reset f h)
+    (times-stay (m .kind) (s .times) t e)

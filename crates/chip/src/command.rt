@@ -128,15 +128,22 @@ impl Chip {
     pub fn release(self) -> Chip
         ensures answer { λ r. ⌜ r ≡ chipReleased self ⌝ }
     {
-        let old = self.walk;
+        let pointer = self.walk.pointer;
         let walk = Walk {
+            pointer,
             carry: Carry::Empty,
-            ..old
         };
         let decoder = Decoder::idle();
+        let old = self.times;
+        let slpout = old.slpout;
+        let times = Times {
+            slpout: slpout.anew(),
+            slpin: old.slpin,
+        };
         Chip {
             walk,
             decoder,
+            times,
             ..self
         }
     }

@@ -78,7 +78,7 @@ fn kind_numbered(number: u16) -> Kind
     }
 }
 
-// What a byte is, by the table: the one place where a command byte is looked at.
+// What a byte is, by the table. No other function asks that of a byte; the boot comparison compares records with the bytes of its rows.
 pub fn decode(table: &[u16; 256], c: u8) -> Command
     ensures answer { λ r. ⌜ r ≡ decoded (now (table .entry)) c ⌝ }
 {

@@ -46,6 +46,7 @@ use Rattle.codes.proofs.Command.place as command-place
 use Rattle.timing.proofs.lint as lint
 use Rattle.timing.proofs.Broken.count as count
 use Rattle.timing.proofs.Broken.rule as rule
+use Rattle.timing.proofs.Moment.anew as moment-anew
 use Rattle.timing.proofs.Times.fresh as times-fresh
 use Rattle.timing.proofs.Times.after as after
 use Rattle.board.proofs.PanelConfig.new as config-new
@@ -202,6 +203,9 @@ count-one κs args x y u v p q = (same p q, refl)
 
 pub rule-one : Only rule.ended rule.Reads.Learnt
 rule-one κs args x y u v p q = (same p q, refl)
+
+pub moment-anew-one : Only moment-anew.ended moment-anew.Reads.Learnt
+moment-anew-one κs args x y u v p q = (same p q, refl)
 
 pub times-fresh-one : Only times-fresh.ended times-fresh.Reads.Learnt
 times-fresh-one κs args x y u v p q = (same p q, refl)

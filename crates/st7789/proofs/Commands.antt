@@ -23,7 +23,7 @@ use Rattle.timing.specs.Lint.{brokenBy, rulesOf}
 use Rattle.timing.specs.declared.Broken.{Broken}
 use Rattle.st7789.specs.Parts.{traceOf, warningsOf, withController, withWarnings}
 use Rattle.st7789.specs.Command.{warning, linted, countsBegun, begunRecord, controllerBegun, begun, begunAll}
-use Rattle.st7789.specs.Places.{anyFree, controllerBegunAll}
+use Rattle.st7789.specs.Places.{anyFree, waits, alone, controllerBegunAll}
 use Rattle.st7789.specs.declared.Controller.{Controller}
 use Rattle.st7789.specs.declared.Counts.{Counts}
 use Rattle.st7789.specs.declared.Logs.{Logs}
@@ -133,7 +133,7 @@ module _ (c t : ℕ) where
       let kept : linted c t s ≡ warningsOf s = full places (warningsOf s) (map (warning c t) (rulesOf (brokenBy (s .controller .chip .times) (s .controller .chip .registers .colmod) (kindOf c) t))) (ltb-false (s .controller .logs .warned) places (n .1)) in
       ap (λ f. afterLint (withWarnings f s)) kept ∙ same-panel refl refl (rw (n .0)) refl
 
-  still-quiet : (k : Controller) → anyFree (k .logs) ≡ false → anyFree (controllerBegun c t k .logs) ≡ false
+  pub still-quiet : (k : Controller) → anyFree (k .logs) ≡ false → anyFree (controllerBegun c t k .logs) ≡ false
   still-quiet k e =
       let n = neither (ltb (k .logs .traced) places) (ltb (k .logs .warned) places) e in
       ap
@@ -159,7 +159,7 @@ pub record Turn {S : Type 0} (step : S → ℕ → S) (counts : S → Counts) (b
   pub ramwrs : counts s .«ramwr_count» + (length bytes - i) < 2 ^ 64
   pub left : foldl step s (drop i bytes) ≡ foldl step s₀ bytes
 
-one-more : (b : Bool) (n : ℕ) → cond b (n + 1) n ≤ n + 1
+pub one-more : (b : Bool) (n : ℕ) → cond b (n + 1) n ≤ n + 1
 one-more true n = omega arith
 one-more false n = omega arith
 
@@ -238,29 +238,52 @@ module _ (t : ℕ) where
 none-past : (bytes : List ℕ) → drop (length bytes) bytes ≡ []
 none-past bytes = let e : length bytes ≤ length bytes = omega arith in drop-of-length-le bytes e
 
--- What one turn leaves: a command, or all that are left where no place is free.
+-- Where commands go together no place is free, and so none leaves a warning.
+module _ (s : St7789p3) (quiet : alone (s .controller) ≡ false) where
+  none-free : anyFree (s .controller .logs) ≡ false
+  none-free = neither (anyFree (s .controller .logs)) (waits (s .controller .chip .walk .carry)) quiet .0
+
+  none-warned : (ws : List Warning) → withWarnings (pushAll places (warningsOf s) ws) s ≡ s
+  none-warned ws =
+      let n = neither (ltb (s .controller .logs .traced) places) (ltb (s .controller .logs .warned) places) none-free in
+      ap (λ w. withWarnings w s) (full places (warningsOf s) ws (ltb-false (s .controller .logs .warned) places (n .1)))
+
+-- What one turn leaves: a command, or all that are left where they go together.
 module _ (t : ℕ) {bytes : List ℕ} {s₀ s : St7789p3} {i : ℕ} (u : PanelTurn t bytes s₀ s i) (h : i < length bytes) where
   abbrev afterPart : St7789p3 → Controller → List TraceRecord → St7789p3
   afterPart s k rs = record { controller = k; stored = s .stored; records = rs; warnings = s .warnings }
 
+  -- Where the part is more than one command, they go together after the lint too.
+  pub part-quiet :
+      {end : ℕ} {b : Broken} {s′ : St7789p3} → end ≡ cond (alone (s .controller)) (i + 1) (length bytes) →
+      b ≡ brokenBy (s .controller .chip .times) (s .controller .chip .registers .colmod) (kindOf (getD bytes i 0)) t →
+      s′ ≡ withWarnings (pushAll places (warningsOf s) (map (warning (getD bytes i 0) t) (rulesOf b))) s →
+      1 < length (partOf bytes i end) → alone (s′ .controller) ≡ false
+  part-quiet {end} {b} {s′} ee eb es several = by-test (alone (s .controller)) refl ee
+    where
+      by-test : (x : Bool) → alone (s .controller) ≡ x → end ≡ cond x (i + 1) (length bytes) → alone (s′ .controller) ≡ false
+      by-test true f e =
+          let one : length (partOf bytes i end) ≡ 1 = ap length (part-one bytes i end h e) in
+          absurd (omega (arith, one, several))
+      by-test false f e = ap (λ (s : St7789p3). alone (s .controller)) (es ∙ none-warned s f (map (warning (getD bytes i 0) t) (rulesOf b))) ∙ f
+
   pub panel-part :
       {end : ℕ} {b : Broken} {s′ : St7789p3} {k : Controller} {rs : List TraceRecord} →
-      end ≡ cond (anyFree (s .controller .logs)) (i + 1) (length bytes) →
+      end ≡ cond (alone (s .controller)) (i + 1) (length bytes) →
       b ≡ brokenBy (s .controller .chip .times) (s .controller .chip .registers .colmod) (kindOf (getD bytes i 0)) t →
       s′ ≡ withWarnings (pushAll places (warningsOf s) (map (warning (getD bytes i 0) t) (rulesOf b))) s →
       k ≡ controllerBegunAll t (partOf bytes i end) (s′ .controller) →
       rs ≡ push places (traceOf s′) (begunRecord (getD bytes i 0) t) .places → PanelTurn t bytes s₀ (afterPart s′ k rs) end
-  panel-part {end} {b} {s′} {k} {rs} ee eb es ek er = by-free (anyFree (s .controller .logs)) refl ee
+  panel-part {end} {b} {s′} {k} {rs} ee eb es ek er = by-test (alone (s .controller)) refl ee
     where
-      by-free :
-          (x : Bool) → anyFree (s .controller .logs) ≡ x → end ≡ cond x (i + 1) (length bytes) → PanelTurn t bytes s₀ (afterPart s′ k rs) end
-      by-free true f e =
+      by-test : (x : Bool) → alone (s .controller) ≡ x → end ≡ cond x (i + 1) (length bytes) → PanelTurn t bytes s₀ (afterPart s′ k rs) end
+      by-test true f e =
           rw e
           (panel-next t u h
           (begun-put (getD bytes i 0) t s eb es (ek ∙ ap (λ l. controllerBegunAll t l (s′ .controller)) (part-one bytes i end h e)) er))
-      by-free false f e =
-          let n = neither (ltb (s .controller .logs .traced) places) (ltb (s .controller .logs .warned) places) f in
-          let same : s′ ≡ s = es ∙ ap (λ w. withWarnings w s) (full places (warningsOf s) (map (warning (getD bytes i 0) t) (rulesOf b)) (ltb-false (s .controller .logs .warned) places (n .1))) in
+      by-test false f e =
+          let n = neither (ltb (s .controller .logs .traced) places) (ltb (s .controller .logs .warned) places) (none-free s f) in
+          let same : s′ ≡ s = es ∙ none-warned s f (map (warning (getD bytes i 0) t) (rulesOf b)) in
           let full-trace : push places (traceOf s) (begunRecord (getD bytes i 0) t) .places ≡ s .records = rw (n .0) in
           let quiet : afterPart s′ k rs ≡ withController (controllerBegunAll t (drop i bytes) (s .controller)) s =
           ap (λ q. afterPart s′ k q) er
@@ -276,6 +299,6 @@ module _ (t : ℕ) {bytes : List ℕ} {s₀ s : St7789p3} {i : ℕ} (u : PanelTu
             ramwrs = omega (arith, all-ramwrs t (drop i bytes) (s .controller), length-drop i bytes, u .ramwrs);
             left =
                 ap (foldl (λ s c. begun c t s) (withController (controllerBegunAll t (drop i bytes) (s .controller)) s)) (none-past bytes)
-                ∙ sym (begun-all-quiet t (drop i bytes) s f)
+                ∙ sym (begun-all-quiet t (drop i bytes) s (none-free s f))
                 ∙ u .left;
           })

@@ -3,3 +3,4 @@ pub mod Tests
 pub mod Accepted
 pub mod Commands
 pub mod Moves
+mod Passing

@@ -1,12 +1,17 @@
 -- Workshop: how the code looks at the current record, at a place that the list always has, at the stored lists and at lent memory.
-use Prim.Native.Nat.{ℕ, _+_}
-use mathlib.Core.Bool.{Bool, false, cond, not, _||_}
+use Prim.Native.Nat.{ℕ, _+_, _≤_, _<_}
+use mathlib.Core.Path.{_≡_}
+use mathlib.Core.Bool.{Bool, true, false, cond, not, _||_}
 use mathlib.Core.List.{List, foldl}
 use lib.Dec.{ltb, eqb}
+use lib.ListN.{getD}
+use Rattle.pixels.specs.declared.Carry.{Carry}
+use Rattle.pixels.specs.declared.Carry.the-variants.{Empty, High}
 use Rattle.pixels.specs.Run.{Store, written}
 use Rattle.lists.specs.Fixed.{places}
-use Rattle.codes.specs.Codes.{row, commandOf}
-use Rattle.codes.specs.declared.Kind.the-variants.{NoEffect}
+use Rattle.codes.specs.Codes.{row, kindOf, commandOf, is, hasEffect}
+use Rattle.codes.specs.declared.Kind.{Kind}
+use Rattle.codes.specs.declared.Kind.the-variants.{NoEffect, Ramwr}
 use Rattle.codes.specs.declared.Command.{Command}
 use Rattle.lists.specs.Entries.{some}
 use Rattle.lists.specs.Params.{differ}
@@ -69,6 +74,23 @@ commandIn k = cond (k .chip .decoder .«in_pixels») noCommand (commandFor (k .c
 -- Whether a place is free in the trace or among the warnings.
 abbrev pub anyFree : Logs → Bool
 anyFree l = ltb (l .traced) places || ltb (l .warned) places
+
+-- Whether a byte waits for its pixel.
+abbrev pub waits : Carry → Bool
+waits Empty = false
+waits (High byte) = true
+
+-- Whether a command goes by itself: it may leave something in a list, or a byte waits.
+abbrev pub alone : Controller → Bool
+alone k = anyFree (k .logs) || waits (k .chip .walk .carry)
+
+-- Whether something stays of a command when the next one begins, beside its number.
+abbrev pub busy : Kind → Bool
+busy k = hasEffect k || is k Ramwr
+
+-- None of the commands from i up to r is such a one.
+abbrev pub Passing : List ℕ → ℕ → ℕ → Type 0
+Passing bytes i r = (j : ℕ) → i ≤ j → j < r → busy (kindOf (getD bytes j 0)) ≡ false
 
 -- What commands leave of the controller, each after its lint.
 abbrev pub controllerBegunAll : ℕ → List ℕ → Controller → Controller

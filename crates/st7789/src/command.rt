@@ -1,13 +1,13 @@
 // Beginning a command, and the CS release: what becomes of the controller, and the record that the trace keeps.
 ghost use mathlib.Core.Path.{_≡_};
-ghost use mathlib.Core.Bool.{cond};
+ghost use mathlib.Core.Bool.{false, cond};
 ghost use Prim.Native.Nat.{_+_, _^_, _≤_, _<_};
 ghost use lib.ListN.{length};
 ghost use Rattle.codes.specs.Codes.{kindOf};
 ghost use Rattle.codes.specs.Table.{table};
 ghost use Rattle.timing.specs.Lint.{brokenBy};
 ghost use Rattle.st7789.specs.Command.{countsBegun, logsBegun, begunRecord, controllerBegun, logsReleased, controllerReleased};
-ghost use Rattle.st7789.specs.Places.{anyFree, controllerBegunAll};
+ghost use Rattle.st7789.specs.Places.{anyFree, alone, Passing, controllerBegunAll};
 use crate::Controller;
 use crate::Counts;
 use crate::Logs;
@@ -17,6 +17,7 @@ use lists::Current;
 use lists::PLACES;
 use lists::Params;
 use lists::TraceRecord;
+use pixels::Carry;
 use timing::Broken;
 
 impl Counts {
@@ -41,18 +42,6 @@ impl Logs {
         let record = lists::free(self.traced, PLACES);
         let warning = lists::free(self.warned, PLACES);
         (record < PLACES) | (warning < PLACES)
-    }
-
-    // How far the commands from i on go together: one by itself, or all that are left where none can leave anything in a list.
-    pub(crate) fn reach(self, i: usize, end: usize) -> usize
-        requires { ⌜ i < end ⌝ }
-        ensures { λ r. ⌜ r ≡ cond (anyFree self) (i + 1) end ⌝ }
-        ensures { λ r. ⌜ (i < r) × (r ≤ end) ⌝ }
-    {
-        if self.any_free() {
-            return i + 1;
-        }
-        end
     }
 
     // A record more, which is current, or none where no place is free.
@@ -97,6 +86,24 @@ pub(crate) fn begun_record(c: u8, t: u64) -> TraceRecord
     }
 }
 
+// Of the commands from i on, the first of which something stays when the next one begins; the last one where there is none.
+fn next_busy(codes: &[u16; 256], bytes: &[u8], i: usize) -> usize
+    requires { ⌜ (now codes ≡ table) × (i < length (now bytes)) ⌝ }
+    ensures { λ r. ⌜ (i ≤ r) × (r < length (now (bytes .entry))) ⌝ }
+    ensures { λ r. ⌜ Passing (now (bytes .entry)) i r ⌝ }
+{
+    let mut at = i;
+    while at + 1 < bytes.len() {
+        let command = codes::decode(codes, bytes[at]);
+        let kind = command.kind;
+        if kind.has_effect() | kind.is(Kind::Ramwr) {
+            return at;
+        }
+        at += 1;
+    }
+    at
+}
+
 impl Controller {
     // The rules that command c breaks at time t.
     pub(crate) fn lint(self, codes: &[u16; 256], c: u8, t: u64) -> Broken
@@ -124,16 +131,40 @@ impl Controller {
         self
     }
 
-    // Each byte begins a command: what becomes of the controller.
+    // How far the commands from i on go together: one by itself, or all that are left where none can leave anything in a list and no byte
+    // waits for its pixel.
+    pub(crate) fn reach(self, i: usize, end: usize) -> usize
+        requires { ⌜ i < end ⌝ }
+        ensures { λ r. ⌜ r ≡ cond (alone self) (i + 1) end ⌝ }
+        ensures { λ r. ⌜ (i < r) × (r ≤ end) ⌝ }
+    {
+        let logs = self.logs;
+        if logs.any_free() {
+            return i + 1;
+        }
+        let walk = self.chip.walk;
+        let carry = walk.carry;
+        match carry {
+            Carry::Empty => end,
+            Carry::High(byte) => i + 1,
+        }
+    }
+
+    // Each byte begins a command: what becomes of the controller. Commands that go together are only counted where nothing else stays of them.
     pub(crate) fn begin_all(self, codes: &[u16; 256], t: u64, bytes: &[u8]) -> Controller
         requires { ⌜ (now codes ≡ table) × ((self .counts .commands + length (now bytes) < 2 ^ 64) × (self .counts .«ramwr_count» + length (now bytes) < 2 ^ 64)) ⌝ }
+        requires { ⌜ (1 < length (now bytes) → alone self ≡ false) ⌝ }
         ensures { λ r. ⌜ r ≡ controllerBegunAll t (now (bytes .entry)) self ⌝ }
     {
         let mut controller = self;
         let mut i = 0;
         while i < bytes.len() {
-            controller = controller.begin(codes, bytes[i], t);
-            i += 1;
+            let next = next_busy(codes, bytes, i);
+            let passed = (next - i) as u64;
+            let commands = controller.counts.commands + passed;
+            controller.counts.commands = commands;
+            controller = controller.begin(codes, bytes[next], t);
+            i = next + 1;
         }
         controller
     }

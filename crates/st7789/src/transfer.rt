@@ -69,7 +69,7 @@ impl St7789p3 {
         let mut i = 0;
         while i < bytes.len() {
             let c = bytes[i];
-            let end = controller.logs.reach(i, bytes.len());
+            let end = controller.reach(i, bytes.len());
             let broken = controller.lint(&codes, c, t);
             let rules = broken.count();
             let mut place = lists::free(controller.logs.warned, PLACES);

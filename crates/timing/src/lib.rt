@@ -117,9 +117,9 @@ impl Broken {
 }
 
 impl Moment {
-    // The same moment, made anew. A copy would take its padding along, and a long segment of commands would wait for that at each of them.
-    fn anew(self) -> Moment
-        ensures { λ r. ⌜ r ≡ self ⌝ }
+    // The same moment, made anew. A copy would take its padding along, and the next one would wait for that.
+    pub fn anew(self) -> Moment
+        ensures answer { λ r. ⌜ r ≡ self ⌝ }
     {
         match self {
             Moment::Never => Moment::Never,

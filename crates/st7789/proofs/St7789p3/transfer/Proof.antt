@@ -22,7 +22,7 @@ use Rattle.st7789.specs.Refusals.{transferRefusal}
 use Rattle.st7789.specs.Room.{Room}
 use Rattle.st7789.proofs.Tests.{scan-start, scan-on, refused, held-here, put-here}
 use Rattle.st7789.proofs.Accepted.{room, refusal-none, new-left, old-left}
-use Rattle.st7789.proofs.Commands.{within-both, record-put, record-full, Kept, kept-first, kept-next, kept-counts, kept-last, turn-first, turn-last, PanelTurn, part-room, panel-part}
+use Rattle.st7789.proofs.Commands.{within-both, record-put, record-full, Kept, kept-first, kept-next, kept-counts, kept-last, turn-first, turn-last, PanelTurn, part-room, part-quiet, panel-part}
 use Rattle.st7789.proofs.Moves.{end-within, moved-data, moved-commands, stored-data, stored-none, stored-put, stored-nowhere, data-put, answer-with}
 use Rattle.st7789.proofs.St7789p3.transfer.Statement.{statement}
 use Rattle.st7789.proofs.St7789p3.transfer.Tie as tie
@@ -236,10 +236,16 @@ part-begin-all-end c = omega (arith, c .before .before .before .before .before .
 
 begin-all-requires :
     tie.Need-begin-all-requires Inv-loop μ-loop Inv-loop3 μ-loop3 Inv-loop2 μ-loop2
-begin-all-requires c κs = (
-  c .before .before .before .before .before .before .before .before .before .before .before .before .before .table .ensures,
-  part-room (c .before .before .before .before .before .before .before .before .before .before .before .before .before .before .before .before .before .before .before .before .before .before .before .before .before .before .before .before .before .args .t) (c .before .before .before .before .before .before .before .before .before .before .before .before .loop2 .inv) (c .before .before .before .before .before .before .before .before .before .reach .ensures .1 .1) (kept-counts (c .before .before .before .before .loop3 .inv .0)),
-)
+begin-all-requires c κs =
+    let u = c .before .before .before .before .loop3 in
+    let kept = kept-last (u .inv .0) (u .inv .1) (c .before .before .before .before .before .before .count .ensures) (c .before .before .before .loop3-test .left) in
+    let reached = c .before .before .before .before .before .before .before .before .before .reach .ensures in (
+      (
+        c .before .before .before .before .before .before .before .before .before .before .before .before .before .table .ensures,
+        part-room (c .before .before .before .before .before .before .before .before .before .before .before .before .before .before .before .before .before .before .before .before .before .before .before .before .before .before .before .before .before .args .t) (c .before .before .before .before .before .before .before .before .before .before .before .before .loop2 .inv) (reached .1 .1) (kept-counts (u .inv .0)),
+      ),
+      part-quiet _ (c .before .before .before .before .before .before .before .before .before .before .before .before .loop2 .inv) (c .before .before .before .before .before .before .before .before .before .before .before .loop2-test .taken) (reached .0) (c .before .before .before .before .before .before .before .lint .ensures) kept,
+    )
 
 begun-record-requires :
     tie.Need-begun-record-requires Inv-loop μ-loop Inv-loop3 μ-loop3 Inv-loop2 μ-loop2

@@ -29,6 +29,8 @@ pub struct Coverage {
     madctl: BTreeMap<u8, u64>,
     /// Commands begun, by their byte.
     codes: BTreeMap<u8, u64>,
+    /// Segments of several commands that find trace and warnings full: with no byte waiting, and with one.
+    together: [u64; 2],
     /// Data segments of a run that leave a byte waiting, and those that find one waiting.
     left_waiting: u64,
     found_waiting: u64,
@@ -223,6 +225,8 @@ impl Coverage {
             for code in bytes {
                 *self.codes.entry(*code).or_default() += 1;
             }
+            let full = panel.trace().len().min(panel.warnings().len()) >= TRACE_LIMIT;
+            self.together[usize::from(waiting)] += u64::from(full && bytes.len() > 1);
         }
         if self.names {
             self.name_transfer(panel, dc, bytes, release, fate);
@@ -318,6 +322,9 @@ impl Coverage {
         self.bad_lines += other.bad_lines;
         self.left_waiting += other.left_waiting;
         self.found_waiting += other.found_waiting;
+        for (of, count) in other.together.iter().enumerate() {
+            self.together[of] += count;
+        }
         for (of, count) in other.perceived.iter().enumerate() {
             self.perceived[of] += count;
         }
@@ -396,6 +403,14 @@ impl Coverage {
         line(
             &mut out,
             format_args!("commands begun {commands}, by {codes} of 256 bytes"),
+        );
+        let [free, waiting] = self.together;
+        line(
+            &mut out,
+            format_args!(
+                "segments of several commands with trace and warnings full: {free} with no byte waiting, \
+                 {waiting} with one"
+            ),
         );
         line(
             &mut out,

@@ -62,9 +62,8 @@ needOf c = rowOf rows c .need
 abbrev pub commandOf : ℕ → Command
 commandOf c = row c (kindOf c) (needOf c)
 
--- The number of a kind.
+-- The number of a kind. That of the last one stays when kinds are added.
 abbrev pub kindNumber : Kind → ℕ
-kindNumber NoEffect = 0
 kindNumber Swreset = 1
 kindNumber Slpin = 2
 kindNumber Slpout = 3
@@ -91,6 +90,7 @@ kindNumber Pwctrl1 = 23
 kindNumber VendorD6 = 24
 kindNumber Pvgamctrl = 25
 kindNumber Nvgamctrl = 26
+kindNumber NoEffect = 255
 
 -- Whether two kinds are the same.
 abbrev pub is : Kind → Kind → Bool

@@ -6,9 +6,8 @@ pub use numbers::table;
 
 mod numbers;
 
-// The kinds, by the names of their commands. The twelve from Porctrl on are stored.
+// The kinds, by the names of their commands. The twelve from Porctrl on are stored; the last is that of all other bytes.
 pub enum Kind {
-    NoEffect,
     Swreset,
     Slpin,
     Slpout,
@@ -35,6 +34,7 @@ pub enum Kind {
     VendorD6,
     Pvgamctrl,
     Nvgamctrl,
+    NoEffect,
 }
 
 // A command byte and what it is. `need` is how many parameters it applies at, 0 where it applies nothing.
@@ -97,7 +97,6 @@ impl Kind {
         ensures { λ r. ⌜ r ≡ kindNumber self ⌝ }
     {
         match self {
-            Kind::NoEffect => 0,
             Kind::Swreset => 1,
             Kind::Slpin => 2,
             Kind::Slpout => 3,
@@ -124,6 +123,7 @@ impl Kind {
             Kind::VendorD6 => 24,
             Kind::Pvgamctrl => 25,
             Kind::Nvgamctrl => 26,
+            Kind::NoEffect => 255,
         }
     }
 

@@ -238,17 +238,18 @@ pub fn check(words: &[&str]) -> io::Result<ExitCode> {
     let logs = fs::read(folder.join("logs"))?;
     let answers = fs::read(folder.join("logs.expected"))?;
     let mut rest = &logs[..];
-    for answer in headed(&answers, "log") {
+    let mut inputs = Vec::new();
+    while !rest.is_empty() {
         let (input, after) = sized(rest);
         rest = after;
-        cases.push(("log", Kind::Log, input.to_vec(), answer));
+        inputs.push(input.to_vec());
+    }
+    for (input, answer) in paired(inputs, headed(&answers, "log"))? {
+        cases.push(("log", Kind::Log, input, answer));
     }
     let scripts = fs::read(folder.join("scripts"))?;
     let answers = fs::read(folder.join("scripts.expected"))?;
-    for (input, answer) in headed(&scripts, "case")
-        .into_iter()
-        .zip(headed(&answers, "case"))
-    {
+    for (input, answer) in paired(headed(&scripts, "case"), headed(&answers, "case"))? {
         cases.push(("case", Kind::Script, input, answer));
     }
     let count = cases.len();
@@ -281,6 +282,15 @@ pub fn branches(words: &[&str]) -> io::Result<ExitCode> {
     }
     println!("{} of {} marks passed", all.len() - left.len(), all.len());
     Ok(checked)
+}
+
+/// Each input with its answer; there must be as many of both.
+fn paired(inputs: Vec<Vec<u8>>, answers: Vec<Vec<u8>>) -> io::Result<Vec<(Vec<u8>, Vec<u8>)>> {
+    if inputs.len() != answers.len() {
+        let (cases, found) = (inputs.len(), answers.len());
+        return Err(io::Error::other(format!("{cases} cases and {found} answers")));
+    }
+    Ok(inputs.into_iter().zip(answers).collect())
 }
 
 /// The parts after each line `NAME N`, N from 1 on.

@@ -288,7 +288,9 @@ pub fn branches(words: &[&str]) -> io::Result<ExitCode> {
 fn paired(inputs: Vec<Vec<u8>>, answers: Vec<Vec<u8>>) -> io::Result<Vec<(Vec<u8>, Vec<u8>)>> {
     if inputs.len() != answers.len() {
         let (cases, found) = (inputs.len(), answers.len());
-        return Err(io::Error::other(format!("{cases} cases and {found} answers")));
+        return Err(io::Error::other(format!(
+            "{cases} cases and {found} answers"
+        )));
     }
     Ok(inputs.into_iter().zip(answers).collect())
 }

@@ -135,11 +135,7 @@ impl Chip {
         };
         let decoder = Decoder::idle();
         let old = self.times;
-        let slpout = old.slpout;
-        let times = Times {
-            slpout: slpout.anew(),
-            slpin: old.slpin,
-        };
+        let times = old.anew();
         Chip {
             walk,
             decoder,

@@ -8,3 +8,4 @@ pub mod Fits
 pub mod Moments
 pub mod Hosts
 pub mod Instance
+pub mod Profiles

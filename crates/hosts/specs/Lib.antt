@@ -3,3 +3,4 @@ pub mod Operations
 pub mod Tallies
 pub mod Hosts
 pub mod Instance
+pub mod Profiles

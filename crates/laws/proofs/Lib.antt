@@ -18,3 +18,5 @@ pub mod SameMoved
 pub mod SameKept
 pub mod Sentences
 pub mod Decoding
+pub mod Plain
+pub mod Profiles

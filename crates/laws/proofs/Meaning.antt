@@ -1,18 +1,16 @@
 -- What the lists mean: the used part after a command, and after data for it.
 use Prim.Native.Nat.{ℕ, _≤_, _<_}
 use mathlib.Core.Path.{_≡_, refl, ap, ap₂, _∙_}
-use mathlib.Core.List.{List, [], _∷_, _++_, map}
+use mathlib.Core.List.{List, [], _∷_, _++_}
 use lib.Dec.{ltb}
 use lib.ListN.{length, take, set, getD}
 use lib.Seq.{take-set-lt}
 use native.Mathlib.Omega.{arith}
-use Rattle.codes.specs.Codes.{kindOf}
 use Rattle.lists.specs.Fixed.{places, used}
 use Rattle.lists.specs.declared.Current.the-variants.{At}
 use Rattle.lists.proofs.Fixed.{used-all}
-use Rattle.timing.specs.Lint.{brokenBy, rulesOf}
 use Rattle.st7789.specs.Parts.{traceOf, warningsOf}
-use Rattle.st7789.specs.Command.{warning, linted, begunRecord, begun}
+use Rattle.st7789.specs.Command.{warningsFor, linted, begunRecord, begun}
 use Rattle.st7789.specs.Data.{noRecord, onCurrent, ran, taken, recordData, dataIn}
 use Rattle.st7789.specs.declared.St7789p3.{St7789p3}
 use Rattle.laws.proofs.DataKinds.{by-kind}
@@ -22,9 +20,7 @@ module _ (s : St7789p3) where
   -- Warnings: those of the broken rules behind the old ones, and no more than 128.
   pub warnings-mean :
       (c t : ℕ) → s .controller .logs .warned ≤ places → length (s .warnings) ≡ places →
-      used (warningsOf (begun c t s)) ≡
-      take places
-      (used (warningsOf s) ++ map (warning c t) (rulesOf (brokenBy (s .controller .chip .times) (s .controller .chip .registers .colmod) (kindOf c) t)))
+      used (warningsOf (begun c t s)) ≡ take places (used (warningsOf s) ++ warningsFor c t (s .controller))
   unfolding begun
   warnings-mean c t few long =
       ap (λ n. take n (linted c t s .places)) (warned-by c t s (ltb (s .controller .logs .traced) places))

@@ -95,7 +95,7 @@ module _ (s : St7789p3) (g : Good s) where
   pub taken-warnings-good : Good (warningsTaken s .panel)
   taken-warnings-good = unseen-good _ _ _ _ _ _ s g (g .sized .warnings) (clause s (g .fine) 7) refl
 
-  rail-good : (rail : Bool) → Good (railReset rail s)
+  pub rail-good : (rail : Bool) → Good (railReset rail s)
   unfolding emptyLists
   rail-good true =
       let h = fresh-good (s .controller .cfg) in

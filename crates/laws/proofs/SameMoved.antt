@@ -18,7 +18,6 @@ use Rattle.lists.specs.declared.Params.{Params}
 use Rattle.lists.specs.declared.Warning.{Warning}
 use Rattle.lists.proofs.Fixed.{count-all}
 use Rattle.lists.proofs.Maps.{map-take, map-set}
-use Rattle.timing.specs.Lint.{brokenBy, rulesOf}
 use Rattle.chip.specs.Begin.{chipBegun, chipReleased}
 use Rattle.chip.specs.Apply.{due, byteAt, chipFilled, chipApplied, appliedIfDue, chipTaken}
 use Rattle.chip.specs.declared.Chip.{Chip}
@@ -26,7 +25,7 @@ use Rattle.chip.specs.declared.InForce.{InForce}
 use Rattle.chip.specs.declared.InForce.the-variants.{Code}
 use Rattle.chip.proofs.Cuts.{due-enough, window-agrees, registers-agree, taken-params}
 use Rattle.st7789.specs.Parts.{traceOf, warningsOf, withChip, withCounts, withLogs}
-use Rattle.st7789.specs.Command.{warning, begunRecord, controllerBegun, begun, begunAll, controllerReleased, released}
+use Rattle.st7789.specs.Command.{warningsFor, begunRecord, controllerBegun, begun, begunAll, controllerReleased, released}
 use Rattle.st7789.specs.Data.{morePixels, moreParams, droppedAdded, ran, taken, dataIn, storesIn}
 use Rattle.st7789.specs.Refusals.{transferRefusal}
 use Rattle.st7789.specs.Entries.{moved, transferred, transferMemory, bareTransferred}
@@ -44,9 +43,6 @@ use Rattle.laws.proofs.Bare.{same-state}
 use Rattle.laws.proofs.SameRefused.{refusalIn, refusal-told, refusal-same}
 
 -- A command begins.
-abbrev warningsFor : ℕ → ℕ → Controller → List Warning
-warningsFor c t k = map (warning c t) (rulesOf (brokenBy (k .chip .times) (k .chip .registers .colmod) (kindOf c) t))
-
 -- So many warnings are used.
 abbrev warnedBy : ℕ → Controller → Controller
 warnedBy n k = withLogs (record { traced = k .logs .traced; warned = n; current = k .logs .current }) k

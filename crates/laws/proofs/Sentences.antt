@@ -1,4 +1,4 @@
--- Sentences of 01 that say what does not happen, each as a law.
+-- Sentences of 01 that say what does not happen, and those of Q-14 on the reset's time, each as a law.
 use Prim.Native.Nat.{ℕ}
 use mathlib.Core.Path.{_≡_, refl}
 use mathlib.Core.Bool.{Bool, true, false}
@@ -9,10 +9,11 @@ use Rattle.codes.proofs.Bytes.{is-swreset, is-slpin, is-slpout, is-invoff, is-i
 use Rattle.lists.specs.Entries.{some}
 use Rattle.lists.proofs.Bools.{neither}
 use Rattle.timing.specs.Lint.{timesAfter}
-use Rattle.chip.specs.Begin.{effects}
+use Rattle.timing.specs.declared.Moment.{Moment}
+use Rattle.chip.specs.Begin.{freshChip, effects, chipReleased}
 use Rattle.chip.specs.declared.Chip.{Chip}
-use Rattle.st7789.specs.Command.{begun}
-use Rattle.st7789.specs.Entries.{moved, transferred, bareTransferred}
+use Rattle.st7789.specs.Command.{begun, controllerReleased, released}
+use Rattle.st7789.specs.Entries.{freshController, emptyLists, railReset, moved, transferred, bareTransferred}
 use Rattle.st7789.specs.declared.St7789p3.{St7789p3}
 use Rattle.laws.specs.Swreset.{ResetKeeps}
 
@@ -54,3 +55,20 @@ swreset-keeps t s =
       woken = refl;
       nowhere = λ bytes. refl;
     }
+
+-- Q-14: "The reset's time joins the state; a board-rail reset forgets it." Other commands keep it, and so does a CS release.
+pub swreset-timed : (t : ℕ) (s : St7789p3) → begun 0x01 t s .controller .chip .times .swreset ≡ Moment.At t
+unfolding begun timesAfter kindOf needOf
+swreset-timed t s = refl
+
+pub others-untimed : (c t : ℕ) (s : St7789p3) → eqb c 0x01 ≡ false → begun c t s .controller .chip .times .swreset ≡ s .controller .chip .times .swreset
+unfolding begun timesAfter
+others-untimed c t s e = rw (is-swreset c, e)
+
+pub release-remembers : (s : St7789p3) → released s .controller .chip .times .swreset ≡ s .controller .chip .times .swreset
+unfolding controllerReleased chipReleased
+release-remembers s = refl
+
+pub rail-forgets : (s : St7789p3) → railReset true s .controller .chip .times .swreset ≡ Moment.Never
+unfolding emptyLists freshController freshChip
+rail-forgets s = refl

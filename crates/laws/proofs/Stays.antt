@@ -2,7 +2,7 @@
 use Prim.Native.Nat.{ℕ, _+_, _≤_}
 use mathlib.Core.Path.{_≡_, refl, ap, _∙_}
 use mathlib.Core.Bool.{Bool, true, false, cond}
-use mathlib.Core.List.{List, [], _∷_, map}
+use mathlib.Core.List.{List, [], _∷_}
 use native.Mathlib.Omega.{arith}
 use borrow.Author.Tests.{ltb-true, ltb-false, le-ltb}
 use lib.Dec.{ltb}
@@ -12,7 +12,7 @@ use Rattle.marks.specs.declared.Marks.{Marks}
 use Rattle.pixels.proofs.Bounds.{walk-within, marked-good}
 use Rattle.chip.specs.Site.{siteOf}
 use Rattle.codes.specs.Codes.{kindOf, commandOf, isStored, placeOf}
-use Rattle.lists.specs.Fixed.{Fixed, places, pushAll}
+use Rattle.lists.specs.Fixed.{Fixed, places}
 use Rattle.lists.specs.Params.{noParams, filled, differ, tooLong}
 use Rattle.lists.specs.Entries.{some, storedLong, recordLong}
 use Rattle.lists.specs.declared.Params.{Params}
@@ -23,7 +23,6 @@ use Rattle.lists.proofs.Somes.{none-set}
 use Rattle.lists.proofs.Fixed.{count-all, places-all}
 use Rattle.lists.proofs.Filling.{count-filled, length-filled}
 use Rattle.lists.proofs.Alike.{params-same, filled-alike}
-use Rattle.timing.specs.Lint.{brokenBy, rulesOf}
 use Rattle.chip.specs.Begin.{chipBegun, chipReleased}
 use Rattle.chip.specs.Apply.{chipTaken}
 use Rattle.chip.specs.declared.Chip.{Chip}
@@ -32,7 +31,7 @@ use Rattle.chip.specs.declared.InForce.the-variants.{Code}
 use Rattle.chip.proofs.Bounds.{ChipWithin, begun-within, released-within, taken-within}
 use Rattle.chip.proofs.Cuts.{taken-params}
 use Rattle.st7789.specs.Parts.{traceOf, warningsOf, whole}
-use Rattle.st7789.specs.Command.{warning, linted, begunRecord, begun, begunAll, controllerReleased, released}
+use Rattle.st7789.specs.Command.{warningsFor, linted, begunRecord, begun, begunAll, controllerReleased, released}
 use Rattle.st7789.specs.Data.{onCurrent, morePixels, moreParams, walkOver, walkedChip, ran, taken, storedFor, dataIn}
 use Rattle.st7789.specs.Refusals.{countBad}
 use Rattle.st7789.specs.Entries.{moved}
@@ -90,13 +89,10 @@ put-good s w bytes warnings trace stored warned span =
 few-warnings : (c t : ℕ) (s : St7789p3) → Good s → countBad (linted c t s .count) ≡ false
 few-warnings c t s g =
     let h : s .controller .logs .warned ≤ places = ltb-false places (s .controller .logs .warned) (clause s (g .fine) 6) in
-    let ws = map (warning c t) (rulesOf (brokenBy (s .controller .chip .times) (s .controller .chip .registers .colmod) (kindOf c) t)) in
-    le-ltb places (pushAll places (warningsOf s) ws .count) (rw (count-all places (warningsOf s) ws) (omega arith))
+    le-ltb places (linted c t s .count) (rw (count-all places (warningsOf s) (warningsFor c t (s .controller))) (omega arith))
 
 warnings-long : (c t : ℕ) (s : St7789p3) → length (linted c t s .places) ≡ length (s .warnings)
-warnings-long c t s =
-    places-all places (warningsOf s)
-    (map (warning c t) (rulesOf (brokenBy (s .controller .chip .times) (s .controller .chip .registers .colmod) (kindOf c) t)))
+warnings-long c t s = places-all places (warningsOf s) (warningsFor c t (s .controller))
 
 no-params-same : differ noParams noParams ≡ false
 no-params-same = params-same noParams noParams refl refl

@@ -70,22 +70,24 @@ needOfByte c =
     cond (eqb c 0x2A || eqb c 0x2B) 4 (cond (eqb c 0x36 || eqb c 0x3A) 1 (cond (eqb c 0xB0) 2 0))
 
 -- Lint: "(1) Any command but 11, less than 5 ms after a wake. (2) 10 less than 120 ms after the wake, or 11 less than 120 ms after the
--- sleep-in. (3) 2C or 3C with COLMOD not 55."
-abbrev pub brokenByByte : Times → ℕ → ℕ → ℕ → Broken
-brokenByByte times colmod c t =
+-- sleep-in. (3) 2C or 3C with COLMOD not 55." Rule 4 asks for no byte.
+abbrev pub brokenByByte : Bool → Times → ℕ → ℕ → ℕ → Broken
+brokenByByte strict times colmod c t =
     record {
       rule1 = not (eqb c 0x11) && soonAfter (times .slpout) t 5000000;
       rule2 =
           (eqb c 0x10 && soonAfter (times .slpout) t 120000000) || (eqb c 0x11 && soonAfter (At (times .slpin)) t 120000000);
       rule3 = (eqb c 0x2C || eqb c 0x3C) && not (eqb colmod 0x55);
+      rule4 = strict && soonAfter (times .swreset) t 5000000;
     }
 
--- "10 sleep and its time, 11 wake and its time"; 01 sets "sleep-in time t", and "wake time .. stay".
+-- "10 sleep and its time, 11 wake and its time"; 01 sets "sleep-in time t", and "wake time .. stay"; the time of 01 is its own.
 abbrev pub timesAfterByte : Times → ℕ → ℕ → Times
 timesAfterByte times c t =
     record {
       slpout = cond (eqb c 0x11) (At t) (times .slpout);
       slpin = cond (eqb c 0x10 || eqb c 0x01) t (times .slpin);
+      swreset = cond (eqb c 0x01) (At t) (times .swreset);
     }
 
 -- "commands + 1", and with 2C "ramwr_count + 1"

@@ -3,3 +3,4 @@ pub mod Valid
 pub mod Same
 pub mod Cases
 pub mod Swreset
+pub mod Profiles

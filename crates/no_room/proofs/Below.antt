@@ -46,10 +46,11 @@ use Rattle.codes.proofs.Command.place as command-place
 use Rattle.timing.proofs.lint as lint
 use Rattle.timing.proofs.Broken.count as count
 use Rattle.timing.proofs.Broken.rule as rule
-use Rattle.timing.proofs.Moment.anew as moment-anew
 use Rattle.timing.proofs.Times.fresh as times-fresh
+use Rattle.timing.proofs.Times.anew as times-anew
 use Rattle.timing.proofs.Times.after as after
 use Rattle.board.proofs.PanelConfig.new as config-new
+use Rattle.board.proofs.PanelConfig.with_strict as config-strict
 use Rattle.board.proofs.PanelConfig.set_invon_shows_ram as config-set
 use Rattle.board.proofs.Power.fresh as power-fresh
 use Rattle.board.proofs.Power.set_powered as power-set-powered
@@ -204,17 +205,20 @@ count-one κs args x y u v p q = (same p q, refl)
 pub rule-one : Only rule.ended rule.Reads.Learnt
 rule-one κs args x y u v p q = (same p q, refl)
 
-pub moment-anew-one : Only moment-anew.ended moment-anew.Reads.Learnt
-moment-anew-one κs args x y u v p q = (same p q, refl)
-
 pub times-fresh-one : Only times-fresh.ended times-fresh.Reads.Learnt
 times-fresh-one κs args x y u v p q = (same p q, refl)
+
+pub times-anew-one : Only times-anew.ended times-anew.Reads.Learnt
+times-anew-one κs args x y u v p q = (same p q, refl)
 
 pub after-one : Only after.ended after.Reads.Learnt
 after-one κs args x y u v p q = (same p q, refl)
 
 pub config-new-one : Only config-new.ended config-new.Reads.Learnt
 config-new-one κs args x y u v p q = (same p q, refl)
+
+pub config-strict-one : Only config-strict.ended config-strict.Reads.Learnt
+config-strict-one κs args x y u v p q = (same p q, refl)
 
 pub config-set-one : Only config-set.ended config-set.Reads.Learnt
 config-set-one κs args x y u v p q = (same p q, refl)

@@ -1,5 +1,5 @@
 -- Examples: 01's worked examples as rows of one table: the transfers made on a fresh panel, and a test of what they leave; of dimming, a
--- test of what it answers.
+-- test of what it answers. Those of Q-14 as rows of another, each under both profiles.
 use Prim.Native.Nat.{ℕ, _+_, _*_}
 use mathlib.Core.Bool.{Bool, true, false, not, _&&_}
 use mathlib.Core.List.{List, [], _∷_, _++_, foldl, map}
@@ -19,7 +19,7 @@ use Rattle.sequence.specs.Sequence.{bootSequence}
 use Rattle.boot.specs.Boot.{compared, stepOf}
 use Rattle.sequence.specs.declared.BootStep.{BootStep}
 use Rattle.st7789.specs.Parts.{traceOf}
-use Rattle.no_room.specs.Panels.{Call, Panel, fresh}
+use Rattle.no_room.specs.Panels.{Call, Panel, freshUnder, fresh}
 use Rattle.no_room.specs.Kept.{Dim}
 
 -- A row of the table.
@@ -124,6 +124,57 @@ dataOf (b ∷ bs) = segment (b ∷ bs) ∷ []
 abbrev pub sentFrom : ℕ → List BootStep → List Call
 sentFrom at [] = []
 sentFrom at (s ∷ steps) = commandsAt (ms at) (s .cmd ∷ []) ∷ (dataOf (listed (s .params)) ++ sentFrom (at + s .«delay_ms_after») steps)
+
+-- A row of Q-14's table: the transfers, and the rules that are warned of under strict and under plain.
+pub record Timed : Type 0 where
+  pub calls : List Call
+  pub strict : List ℕ
+  pub plain : List ℕ
+
+-- The rows all warn so, for a way to make a call.
+abbrev pub allWarn : (Panel → Call → Panel) → List Timed → Bool
+allWarn make [] = true
+allWarn make (row ∷ rest) =
+    warns (row .strict) (foldl make (freshUnder true) (row .calls)) && warns (row .plain) (foldl make (freshUnder false) (row .calls))
+    && allWarn make rest
+
+-- Q-14: "lint rule 4: any command less than 5 ms after a SWRESET, after the other rules in order."
+unfoldable pub timed : List Timed
+timed =
+    -- 01 at 0, 11 a nanosecond before 5 ms, and at 5 ms
+    record { calls = command 0x01 ∷ commandsAt 4999999 (0x11 ∷ []) ∷ []; strict = 2 ∷ 4 ∷ []; plain = 2 ∷ [] }
+    ∷ record { calls = command 0x01 ∷ commandsAt 5000000 (0x11 ∷ []) ∷ []; strict = 2 ∷ []; plain = 2 ∷ [] }
+    -- 01 01 in one segment: the second is 0 ns after the first, the first after none
+    ∷ record { calls = commandsAt 0 (0x01 ∷ 0x01 ∷ []) ∷ []; strict = 4 ∷ []; plain = [] }
+    -- 01, then 2C at 1 ms with COLMOD 66
+    ∷ record { calls = command 0x01 ∷ commandsAt (ms 1) (0x2C ∷ []) ∷ []; strict = 3 ∷ 4 ∷ []; plain = 3 ∷ [] }
+    -- three rules at once: 11, 01, then 2C, or 10
+    ∷ record { calls = commandsAt (ms 200) (0x11 ∷ []) ∷ commandsAt (ms 201) (0x01 ∷ 0x2C ∷ []) ∷ []; strict = 1 ∷ 1 ∷ 3 ∷ 4 ∷ []; plain = 1 ∷ 1 ∷ 3 ∷ [] }
+    ∷ record {
+      calls = commandsAt (ms 200) (0x11 ∷ []) ∷ commandsAt (ms 201) (0x01 ∷ 0x10 ∷ []) ∷ [];
+      strict = 1 ∷ 1 ∷ 2 ∷ 4 ∷ [];
+      plain = 1 ∷ 1 ∷ 2 ∷ [];
+    }
+    -- the 01 itself is judged by the reset before it, and what follows by it
+    ∷ record {
+      calls = command 0x01 ∷ commandsAt (ms 5) (0x01 ∷ []) ∷ commandsAt (ms 9) (0x00 ∷ []) ∷ commandsAt (ms 10) (0x00 ∷ []) ∷ [];
+      strict = 4 ∷ [];
+      plain = [];
+    }
+    -- "Elapsed time is 0 if the clock went back."
+    ∷ record { calls = commandsAt (ms 100) (0x01 ∷ []) ∷ command 0x00 ∷ []; strict = 4 ∷ []; plain = [] }
+    -- a CS release doesn't end it, nor does a sleep-in begin it
+    ∷ record {
+      calls = record { time = 0; dc = false; bytes = 0x01 ∷ []; release = true } ∷ commandsAt (ms 1) (0x00 ∷ []) ∷ [];
+      strict = 4 ∷ [];
+      plain = [];
+    }
+    ∷ record { calls = command 0x10 ∷ commandsAt (ms 1) (0x00 ∷ []) ∷ []; strict = []; plain = [] }
+    -- a list full of rule 4 has no place for rule 3
+    ∷ record { calls = commandsAt 0 (replicate 129 0x01) ∷ command 0x2C ∷ []; strict = replicate 128 4; plain = 3 ∷ [] }
+    -- the boot rows at their delays: 20 ms after 01, and so as under plain
+    ∷ record { calls = sentFrom 0 bootSequence; strict = 2 ∷ []; plain = 2 ∷ [] }
+    ∷ []
 
 -- The table, for a way to dim.
 unfoldable pub rows : Dim → List Row

@@ -1,10 +1,10 @@
 -- Rules: what the examples and the impostors are said with: a transfer as a call, a panel with its memory, and what a call leaves of it as
 -- `transfer` promises.
 use Prim.Native.Nat.{ℕ}
-use mathlib.Core.Bool.{Bool, true}
+use mathlib.Core.Bool.{Bool, true, false}
 use mathlib.Core.List.{List}
 use lib.ListN.{length, replicate}
-use Rattle.board.specs.Board.{switchedTo}
+use Rattle.board.specs.Board.{switchedTo, strictSet}
 use Rattle.st7789.specs.Entries.{freshPanel, transferred, transferMemory}
 use Rattle.st7789.specs.declared.St7789p3.{St7789p3}
 
@@ -20,9 +20,12 @@ pub record Panel : Type 0 where
   pub state : St7789p3
   pub memory : List ℕ
 
--- "fresh panel unless said"
+-- "fresh panel unless said", under the strict profile or the plain one.
+abbrev pub freshUnder : Bool → Panel
+freshUnder strict = record { state = freshPanel (strictSet strict (switchedTo true)); memory = replicate 76800 0 }
+
 abbrev pub fresh : Panel
-fresh = record { state = freshPanel (switchedTo true); memory = replicate 76800 0 }
+fresh = freshUnder false
 
 -- The panel after a call, as `transfer` promises it.
 abbrev pub after : Panel → Call → Panel

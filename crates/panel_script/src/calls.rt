@@ -141,6 +141,11 @@ fn long(n: u64) -> u32 {
     if n < 4294967296 { n as u32 } else { 0 }
 }
 
+fn config(switch: u64, strict: u64) -> PanelConfig {
+    let plain = PanelConfig::new(switch == 1);
+    plain.with_strict(strict == 1)
+}
+
 // What is switched; any other call leaves the controller as it is.
 fn switched(c: Controller, call: usize, n: [u64; 8]) -> Controller {
     let on = n[1] == 1;
@@ -174,7 +179,7 @@ pub(crate) fn run(
     match call {
         forms::TRANSFER | forms::BARE => send(panel, read, bytes, memory),
         forms::RESET => answered(panel.reset(domain(n[1]), memory)),
-        forms::FRESH => answered(St7789p3::new(PanelConfig::new(n[1] == 1), memory)),
+        forms::FRESH => answered(St7789p3::new(config(n[1], n[2]), memory)),
         forms::PUBLISH => publish(panel, memory, frame),
         forms::TAKE_WARNINGS => take_warnings(panel),
         forms::MEMORY => {

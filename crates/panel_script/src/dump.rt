@@ -48,14 +48,14 @@ fn print_report(panel: St7789p3) {
 
 fn print_ctl(power: Power, cfg: PanelConfig) {
     print::form(
-        b"ctl 0 0 0 0 0\n",
+        b"ctl 0 0 0 0 0 0\n",
         [
             power.powered as u64,
             cfg.invon_shows_ram as u64,
             power.level as u64,
             power.scale as u64,
             power.duty as u64,
-            0,
+            cfg.strict as u64,
             0,
             0,
         ],
@@ -88,8 +88,8 @@ fn print_ctx(decoder: Decoder, carry: Carry) {
 
 fn print_moment(moment: Moment) {
     match moment {
-        Moment::Never => print::text(b"at none"),
-        Moment::At(t) => print::one(b"at 0", t),
+        Moment::Never => print::text(b" none"),
+        Moment::At(t) => print::one(b" 0", t),
     }
 }
 
@@ -107,9 +107,12 @@ fn print_rest(chip: Chip, current: Current) {
     let carry = walk.carry;
     let times = chip.times;
     let slpout = times.slpout;
+    let swreset = times.swreset;
     print_ctx(decoder, carry);
+    print::text(b"at");
     print_moment(slpout);
     print::one(b" 0", times.slpin);
+    print_moment(swreset);
     print_current(current);
 }
 

@@ -98,7 +98,11 @@ pub(crate) const MEMORY: usize = 42;
 
 pub(crate) const FRAME: usize = 43;
 
-const NO_FIELD: usize = 44;
+pub(crate) const SWRESET: usize = 44;
+
+pub(crate) const STRICT: usize = 45;
+
+const NO_FIELD: usize = 46;
 
 // What can be wrong with a line, by the places in `print::bad_line`; 0 where nothing is.
 const UNKNOWN_CALL: usize = 1;
@@ -148,6 +152,11 @@ pub(crate) fn least(n: usize, length: usize) -> usize
     if n < length { n } else { length }
 }
 
+// The place before one, or the first.
+fn before(n: usize) -> usize {
+    if n == 0 { 0 } else { n - 1 }
+}
+
 // Whether a line has exactly n words, one or more.
 pub(crate) fn has(line: &[u8], n: usize) -> bool {
     if n == 0 {
@@ -158,14 +167,13 @@ pub(crate) fn has(line: &[u8], n: usize) -> bool {
     (last != 0) & (more == 0)
 }
 
-fn counted(line: &[u8], due: usize) -> usize {
-    if has(line, due) {
-        return 0;
+// A line with `least` words or more, as many as its form at most; the first word is there.
+fn counted(line: &[u8], least: usize, form: &[u8]) -> usize {
+    if words::word(line, form.len()).len() != 0 {
+        return MANY_WORDS;
     }
-    if words::word(line, due).len() == 0 {
-        return FEW_WORDS;
-    }
-    MANY_WORDS
+    let last = words::word(line, before(least));
+    wrong_if(last.len() == 0, FEW_WORDS)
 }
 
 // A letter of a form; `*` takes any word.
@@ -228,13 +236,9 @@ fn read_list(kind: u8, word: &[u8], bytes: &mut [u8]) -> Expanded {
     bytes::expand(word, &mut bytes[..lent])
 }
 
-fn last(form: &[u8]) -> usize {
-    if form.len() == 0 { 0 } else { form.len() - 1 }
-}
-
 fn read_form(form: &[u8], line: &[u8], bytes: &mut [u8]) -> Words {
     let mut read = read_words(form, line);
-    let at = last(form);
+    let at = before(form.len());
     let list = read_list(letter(form, at), words::word(line, at), bytes);
     let long = wrong_if(list.long, TOO_LONG);
     let wrong = first(read.wrong, first(long, wrong_if(!list.good, BAD_NUMBER)));
@@ -244,9 +248,14 @@ fn read_form(form: &[u8], line: &[u8], bytes: &mut [u8]) -> Words {
     read
 }
 
+// How many words a call has where what may be left out of it is.
+fn owed(call: usize, form: &[u8]) -> usize {
+    if call == FRESH { 2 } else { form.len() }
+}
+
 fn read_call(call: usize, line: &[u8], bytes: &mut [u8]) -> Line {
     let form = words::word(
-        b"*tffb *tffb *f *f *lls * * *D *f * *V *Vss *Ms * *Bn * *V",
+        b"*tffb *tffb *f *f *lls * * *D *fo * *V *Vss *Ms * *Bn * *V",
         call,
     );
     let read = read_form(form, line, bytes);
@@ -257,7 +266,10 @@ fn read_call(call: usize, line: &[u8], bytes: &mut [u8]) -> Line {
         none: false,
         numbers,
         count: read.count,
-        wrong: first(unknown, first(counted(line, form.len()), read.wrong)),
+        wrong: first(
+            unknown,
+            first(counted(line, owed(call, form), form), read.wrong),
+        ),
     }
 }
 
@@ -283,7 +295,7 @@ fn read_field(form: &[u8], line: &[u8], none: bool, full: usize, bytes: &mut [u8
         };
     }
     let mut read = read_form(form, line, bytes);
-    let wrong = first(counted(line, form.len()), first(full, read.wrong));
+    let wrong = first(counted(line, form.len(), form), first(full, read.wrong));
     read.wrong = wrong;
     read
 }
@@ -292,10 +304,10 @@ fn read_set(line: &[u8], traced: u8, warned: u8, bytes: &mut [u8]) -> Line {
     let name = words::word(line, 1);
     let field = kinds::place(
         name,
-        b"sleeping on inverted run applied madctl colmod ramctrl win carry cmd params stored commands ramwrs pixels dropped dirty slpout slpin trace current warnings memory frame",
+        b"sleeping on inverted run applied madctl colmod ramctrl win carry cmd params stored commands ramwrs pixels dropped dirty slpout slpin trace current warnings memory frame swreset strict",
     );
     let form = words::word(
-        b"**f **f **f **f **f **h **h **w **ssssss -*h -*h **p **cq **t **t **t **t -*ss -*t **t -*http -*i -*rht **w **w ***",
+        b"**f **f **f **f **f **h **h **w **ssssss -*h -*h **p **cq **t **t **t **t -*ss -*t **t -*http -*i -*rht **w **w -*t **f ***",
         field,
     );
     let call = SET + least(field, NO_FIELD - SET);

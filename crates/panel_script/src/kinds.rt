@@ -58,14 +58,30 @@ fn within(n: Number, least: u64, most: u64) -> Number {
     }
 }
 
+fn flag(word: &[u8]) -> Number {
+    within(numbers::hex(word, 1), 0, 1)
+}
+
+// A flag that may be left out, and is 0 then.
+fn flag_or_none(word: &[u8]) -> Number {
+    if word.len() == 0 {
+        return Number {
+            value: 0,
+            good: true,
+        };
+    }
+    flag(word)
+}
+
 // Any other letter takes any word.
 pub(crate) fn read(kind: u8, word: &[u8]) -> Number {
     match kind {
-        b'f' => within(numbers::hex(word, 1), 0, 1),
+        b'f' => flag(word),
+        b'o' => flag_or_none(word),
         b'h' => numbers::hex(word, 2),
         b'w' => numbers::hex(word, 4),
         b'c' => within(stored(word), 0, 11),
-        b'r' => within(numbers::decimal(word, 3), 1, 3),
+        b'r' => within(numbers::decimal(word, 4), 1, 4),
         b'i' => numbers::decimal(word, 255),
         b's' => numbers::decimal(word, 65535),
         b'n' => numbers::decimal(word, 76801),

@@ -2,6 +2,7 @@
 use crate::forms;
 use crate::forms::Line;
 use crate::kinds;
+use board::PanelConfig;
 use chip::Chip;
 use chip::Decoder;
 use chip::InForce;
@@ -125,12 +126,13 @@ fn moment(none: bool, n: u64) -> Moment {
     Moment::At(n)
 }
 
-// set slpout TIME, set slpin TIME
+// set slpout TIME, set slpin TIME, set swreset TIME
 fn times(old: Times, field: usize, none: bool, n: u64) -> Times {
-    let slpout = moment(none, n);
+    let at = moment(none, n);
     match field {
-        forms::SLPOUT => Times { slpout, ..old },
+        forms::SLPOUT => Times { slpout: at, ..old },
         forms::SLPIN => Times { slpin: n, ..old },
+        forms::SWRESET => Times { swreset: at, ..old },
         _ => old,
     }
 }
@@ -216,14 +218,24 @@ fn logs(old: Logs, field: usize, none: bool, n: u64) -> Logs {
     }
 }
 
+// set strict B
+fn config(old: PanelConfig, field: usize, n: u64) -> PanelConfig {
+    if field == forms::STRICT {
+        return old.with_strict(n == 1);
+    }
+    old
+}
+
 fn controller(old: Controller, read: Line, params: Params) -> Controller {
     let n = read.numbers;
     let field = read.call;
+    let cfg = config(old.cfg, field, n[2]);
     let chip = chip(old.chip, read, params);
     let counts = counts(old.counts, field, n[2]);
     let marks = marks(old.marks, read);
     let logs = logs(old.logs, field, read.none, n[2]);
     Controller {
+        cfg,
         chip,
         counts,
         marks,

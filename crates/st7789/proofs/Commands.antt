@@ -19,10 +19,10 @@ use Rattle.lists.specs.declared.Current.the-variants.{Nothing, At}
 use Rattle.lists.proofs.Bools.{both, neither}
 use Rattle.lists.proofs.Fixed.{full}
 use Rattle.lists.proofs.Putting.{put-free, put-none}
-use Rattle.timing.specs.Lint.{brokenBy, rulesOf}
+use Rattle.timing.specs.Lint.{rulesOf}
 use Rattle.timing.specs.declared.Broken.{Broken}
 use Rattle.st7789.specs.Parts.{traceOf, warningsOf, withController, withWarnings}
-use Rattle.st7789.specs.Command.{warning, linted, countsBegun, begunRecord, controllerBegun, begun, begunAll}
+use Rattle.st7789.specs.Command.{warning, brokenWith, warningsFor, linted, countsBegun, begunRecord, controllerBegun, afterLint, begun, begunAll}
 use Rattle.st7789.specs.Places.{anyFree, waits, alone, controllerBegunAll}
 use Rattle.st7789.specs.declared.Controller.{Controller}
 use Rattle.st7789.specs.declared.Counts.{Counts}
@@ -102,27 +102,17 @@ module _ {w : ℕ → Warning} {rules : List ℕ} {s₀ : St7789p3} where
           rw (drop-of-length-le rules past) at (u .left)
 
 module _ (c t : ℕ) where
-  -- What follows the lint.
-  abbrev afterLint : St7789p3 → St7789p3
-  afterLint s =
-      record {
-        controller = controllerBegun c t (s .controller);
-        stored = s .stored;
-        records = push places (traceOf s) (begunRecord c t) .places;
-        warnings = s .warnings;
-      }
-
   -- A command begun, put together from the rules that it broke, the controller and the records.
   pub begun-put :
       {b : Broken} (s₀ : St7789p3) {s : St7789p3} {k : Controller} {rs : List TraceRecord} →
-      b ≡ brokenBy (s₀ .controller .chip .times) (s₀ .controller .chip .registers .colmod) (kindOf c) t →
+      b ≡ brokenWith c t (s₀ .controller) →
       s ≡ withWarnings (pushAll places (warningsOf s₀) (map (warning c t) (rulesOf b))) s₀ → k ≡ controllerBegun c t (s .controller) →
       rs ≡ push places (traceOf s) (begunRecord c t) .places →
       _≡_ {A = St7789p3} (record { controller = k; stored = s .stored; records = rs; warnings = s .warnings }) (begun c t s₀)
   unfolding begun
   begun-put s₀ eb es ek er =
       same-panel ek refl er refl
-      ∙ ap afterLint (es ∙ ap (λ b. withWarnings (pushAll places (warningsOf s₀) (map (warning c t) (rulesOf b))) s₀) eb)
+      ∙ ap (afterLint c t) (es ∙ ap (λ b. withWarnings (pushAll places (warningsOf s₀) (map (warning c t) (rulesOf b))) s₀) eb)
 
   -- Where no place is free it is the controller that changes.
   begun-quiet :
@@ -130,8 +120,8 @@ module _ (c t : ℕ) where
   unfolding begun
   begun-quiet s e =
       let n = neither (ltb (s .controller .logs .traced) places) (ltb (s .controller .logs .warned) places) e in
-      let kept : linted c t s ≡ warningsOf s = full places (warningsOf s) (map (warning c t) (rulesOf (brokenBy (s .controller .chip .times) (s .controller .chip .registers .colmod) (kindOf c) t))) (ltb-false (s .controller .logs .warned) places (n .1)) in
-      ap (λ f. afterLint (withWarnings f s)) kept ∙ same-panel refl refl (rw (n .0)) refl
+      let kept : linted c t s ≡ warningsOf s = full places (warningsOf s) (warningsFor c t (s .controller)) (ltb-false (s .controller .logs .warned) places (n .1)) in
+      ap (λ f. afterLint c t (withWarnings f s)) kept ∙ same-panel refl refl (rw (n .0)) refl
 
   pub still-quiet : (k : Controller) → anyFree (k .logs) ≡ false → anyFree (controllerBegun c t k .logs) ≡ false
   still-quiet k e =
@@ -256,7 +246,7 @@ module _ (t : ℕ) {bytes : List ℕ} {s₀ s : St7789p3} {i : ℕ} (u : PanelTu
   -- Where the part is more than one command, they go together after the lint too.
   pub part-quiet :
       {end : ℕ} {b : Broken} {s′ : St7789p3} → end ≡ cond (alone (s .controller)) (i + 1) (length bytes) →
-      b ≡ brokenBy (s .controller .chip .times) (s .controller .chip .registers .colmod) (kindOf (getD bytes i 0)) t →
+      b ≡ brokenWith (getD bytes i 0) t (s .controller) →
       s′ ≡ withWarnings (pushAll places (warningsOf s) (map (warning (getD bytes i 0) t) (rulesOf b))) s →
       1 < length (partOf bytes i end) → alone (s′ .controller) ≡ false
   part-quiet {end} {b} {s′} ee eb es several = by-test (alone (s .controller)) refl ee
@@ -270,7 +260,7 @@ module _ (t : ℕ) {bytes : List ℕ} {s₀ s : St7789p3} {i : ℕ} (u : PanelTu
   pub panel-part :
       {end : ℕ} {b : Broken} {s′ : St7789p3} {k : Controller} {rs : List TraceRecord} →
       end ≡ cond (alone (s .controller)) (i + 1) (length bytes) →
-      b ≡ brokenBy (s .controller .chip .times) (s .controller .chip .registers .colmod) (kindOf (getD bytes i 0)) t →
+      b ≡ brokenWith (getD bytes i 0) t (s .controller) →
       s′ ≡ withWarnings (pushAll places (warningsOf s) (map (warning (getD bytes i 0) t) (rulesOf b))) s →
       k ≡ controllerBegunAll t (partOf bytes i end) (s′ .controller) →
       rs ≡ push places (traceOf s′) (begunRecord (getD bytes i 0) t) .places → PanelTurn t bytes s₀ (afterPart s′ k rs) end

@@ -1,4 +1,4 @@
--- Rules: 01, "Commands" and "Lint": beginning a command, and the CS release. What the controller becomes, and beside it what the lists
+-- Rules: 01, "Commands" and "Lint", and 02, Q-14: beginning a command, and the CS release. What the controller becomes, and beside it what the lists
 -- keep.
 use Prim.Native.Nat.{ℕ, _+_}
 use mathlib.Core.Bool.{cond}
@@ -13,6 +13,7 @@ use Rattle.lists.specs.declared.TraceRecord.{TraceRecord}
 use Rattle.lists.specs.declared.Warning.{Warning}
 use Rattle.lists.specs.declared.Current.the-variants.{Nothing, At}
 use Rattle.timing.specs.Lint.{brokenBy, rulesOf}
+use Rattle.timing.specs.declared.Broken.{Broken}
 use Rattle.chip.specs.Begin.{inForce, effects, chipReleased}
 use Rattle.st7789.specs.Parts.{traceOf, warningsOf, withController, withChip, withCounts, withLogs, withWarnings}
 use Rattle.st7789.specs.declared.Counts.{Counts}
@@ -24,11 +25,17 @@ use Rattle.st7789.specs.declared.St7789p3.{St7789p3}
 abbrev pub warning : ℕ → ℕ → ℕ → Warning
 warning c t rule = record { at = t; rule = rule; cmd = c }
 
--- "lint": a warning for each rule that c breaks at time t, "In that order; kept while fewer than 128."
+-- What c breaks at time t, under the profile that the panel is made with.
+abbrev pub brokenWith : ℕ → ℕ → Controller → Broken
+brokenWith c t k = brokenBy (k .cfg .strict) (k .chip .times) (k .chip .registers .colmod) (kindOf c) t
+
+-- A warning for each rule that is broken, "In that order".
+abbrev pub warningsFor : ℕ → ℕ → Controller → List Warning
+warningsFor c t k = map (warning c t) (rulesOf (brokenWith c t k))
+
+-- "lint": the warnings of c at time t, "kept while fewer than 128."
 abbrev pub linted : ℕ → ℕ → St7789p3 → Fixed Warning
-linted c t s =
-    pushAll places (warningsOf s)
-    (map (warning c t) (rulesOf (brokenBy (s .controller .chip .times) (s .controller .chip .registers .colmod) (kindOf c) t)))
+linted c t s = pushAll places (warningsOf s) (warningsFor c t (s .controller))
 
 -- "commands + 1", and with 2C "ramwr_count + 1"
 abbrev pub countsBegun : Kind → Counts → Counts
@@ -62,18 +69,19 @@ controllerBegun c t k =
     -- "Then effects: 01 reset, .."
     withChip (effects (kindOf c) t (d .chip)) d
 
--- "Beginning command c at time t, in this order:"
-unfoldable pub begun : ℕ → ℕ → St7789p3 → St7789p3
-begun c t s =
-    -- "lint;"
-    let a : St7789p3 = withWarnings (linted c t s) s in
-    -- "commands + 1; .. Then a trace record .. Then effects"
+-- The same of the panel: "commands + 1; .. Then a trace record .. Then effects"
+abbrev pub afterLint : ℕ → ℕ → St7789p3 → St7789p3
+afterLint c t s =
     record {
-      controller = controllerBegun c t (a .controller);
-      stored = a .stored;
-      records = push places (traceOf a) (begunRecord c t) .places;
-      warnings = a .warnings;
+      controller = controllerBegun c t (s .controller);
+      stored = s .stored;
+      records = push places (traceOf s) (begunRecord c t) .places;
+      warnings = s .warnings;
     }
+
+-- "Beginning command c at time t, in this order: lint; commands + 1; .."
+unfoldable pub begun : ℕ → ℕ → St7789p3 → St7789p3
+begun c t s = afterLint c t (withWarnings (linted c t s) s)
 
 -- "with dc low, each byte begins a command"
 abbrev pub begunAll : ℕ → List ℕ → St7789p3 → St7789p3

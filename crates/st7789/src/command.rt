@@ -3,10 +3,8 @@ ghost use mathlib.Core.Path.{_≡_};
 ghost use mathlib.Core.Bool.{false, cond};
 ghost use Prim.Native.Nat.{_+_, _^_, _≤_, _<_};
 ghost use lib.ListN.{length};
-ghost use Rattle.codes.specs.Codes.{kindOf};
 ghost use Rattle.codes.specs.Table.{table};
-ghost use Rattle.timing.specs.Lint.{brokenBy};
-ghost use Rattle.st7789.specs.Command.{countsBegun, logsBegun, begunRecord, controllerBegun, logsReleased, controllerReleased};
+ghost use Rattle.st7789.specs.Command.{brokenWith, countsBegun, logsBegun, begunRecord, controllerBegun, logsReleased, controllerReleased};
 ghost use Rattle.st7789.specs.Places.{anyFree, alone, Passing, controllerBegunAll};
 use crate::Controller;
 use crate::Counts;
@@ -108,11 +106,17 @@ impl Controller {
     // The rules that command c breaks at time t.
     pub(crate) fn lint(self, codes: &[u16; 256], c: u8, t: u64) -> Broken
         requires { ⌜ now codes ≡ table ⌝ }
-        ensures { λ r. ⌜ r ≡ brokenBy (self .chip .times) (self .chip .registers .colmod) (kindOf c) t ⌝ }
+        ensures { λ r. ⌜ r ≡ brokenWith c t self ⌝ }
     {
         let command = codes::decode(codes, c);
         let kind = command.kind;
-        timing::lint(self.chip.times, self.chip.registers.colmod, kind, t)
+        timing::lint(
+            self.cfg.strict,
+            self.chip.times,
+            self.chip.registers.colmod,
+            kind,
+            t,
+        )
     }
 
     // Command c begins at time t, after the lint.

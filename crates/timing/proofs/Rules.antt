@@ -16,14 +16,16 @@ only-one : (b : Bool) (rule : ℕ) → length (only b rule) ≡ one b
 only-one true rule = refl
 only-one false rule = refl
 
-pub counted : (b : Broken) → one (b .rule1) + one (b .rule2) + one (b .rule3) ≡ length (rulesOf b)
+pub counted : (b : Broken) → one (b .rule1) + one (b .rule2) + one (b .rule3) + one (b .rule4) ≡ length (rulesOf b)
 counted b =
     rw (
-      length-append (only (b .rule1) 1) (only (b .rule2) 2 ++ only (b .rule3) 3),
-      length-append (only (b .rule2) 2) (only (b .rule3) 3),
+      length-append (only (b .rule1) 1) (only (b .rule2) 2 ++ (only (b .rule3) 3 ++ only (b .rule4) 4)),
+      length-append (only (b .rule2) 2) (only (b .rule3) 3 ++ only (b .rule4) 4),
+      length-append (only (b .rule3) 3) (only (b .rule4) 4),
       only-one (b .rule1) 1,
       only-one (b .rule2) 2,
       only-one (b .rule3) 3,
+      only-one (b .rule4) 4,
     )
     (omega arith)
 
@@ -39,32 +41,48 @@ module _ (rule : ℕ) (l : List ℕ) where
   later-rule true (suc k) h = ap (λ i. getD l i 0) (omega arith)
   later-rule false k h = ap (λ i. getD l i 0) (omega arith)
 
--- The four answers of `rule`.
-module _ (b : Broken) {x y z : ℕ} (ex : x ≡ one (b .rule1)) (ey : y ≡ one (b .rule2)) (ez : z ≡ one (b .rule3)) (k : ℕ) where
-  abbrev rest : List ℕ
-  rest = only (b .rule2) 2 ++ only (b .rule3) 3
+-- The five answers of `rule`.
+module _ (b : Broken) {w x y z : ℕ} (ew : w ≡ one (b .rule1)) (ex : x ≡ one (b .rule2)) (ey : y ≡ one (b .rule3)) (ez : z ≡ one (b .rule4)) (k : ℕ) where
+  -- The rules from the third on and from the second on.
+  abbrev from3 : List ℕ
+  from3 = only (b .rule3) 3 ++ only (b .rule4) 4
 
-  pub rule-one : k < x → 1 ≡ getD (rulesOf b) k 0
-  rule-one h = first-rule 1 rest (b .rule1) k (omega (arith, ex, h))
+  abbrev from2 : List ℕ
+  from2 = only (b .rule2) 2 ++ from3
 
-  past-one : x ≤ k → getD rest (k - one (b .rule1)) 0 ≡ getD (rulesOf b) k 0
-  past-one h = later-rule 1 rest (b .rule1) k (omega (arith, ex, h))
+  -- The place of k from the second on, from the third on, and from the fourth on.
+  abbrev in2 : ℕ
+  in2 = k - one (b .rule1)
 
-  pub rule-two : x ≤ k → k < x + y → 2 ≡ getD (rulesOf b) k 0
-  rule-two h l = first-rule 2 (only (b .rule3) 3) (b .rule2) (k - one (b .rule1)) (omega (arith, ex, ey, h, l)) ∙ past-one h
+  abbrev in3 : ℕ
+  in3 = in2 - one (b .rule2)
 
-  past-two : x + y ≤ k → getD (only (b .rule3) 3) (k - one (b .rule1) - one (b .rule2)) 0 ≡ getD (rulesOf b) k 0
-  past-two h =
-      later-rule 2 (only (b .rule3) 3) (b .rule2) (k - one (b .rule1)) (omega (arith, ex, ey, h)) ∙ past-one (omega (arith, ex, ey, h))
+  abbrev in4 : ℕ
+  in4 = in3 - one (b .rule3)
 
-  pub rule-three : x + y ≤ k → k < x + y + z → 3 ≡ getD (rulesOf b) k 0
-  rule-three h l =
-      rw (append-nil (only (b .rule3) 3)) at
-      (first-rule 3 [] (b .rule3) (k - one (b .rule1) - one (b .rule2)) (omega (arith, ex, ey, ez, h, l)))
-      ∙ past-two h
+  pub rule-one : k < w → 1 ≡ getD (rulesOf b) k 0
+  rule-one h = first-rule 1 from2 (b .rule1) k (omega (arith, ew, h))
 
-  pub rule-none : x + y + z ≤ k → 0 ≡ getD (rulesOf b) k 0
+  past-one : w ≤ k → getD from2 in2 0 ≡ getD (rulesOf b) k 0
+  past-one h = later-rule 1 from2 (b .rule1) k (omega (arith, ew, h))
+
+  pub rule-two : w ≤ k → k < w + x → 2 ≡ getD (rulesOf b) k 0
+  rule-two h l = first-rule 2 from3 (b .rule2) in2 (omega (arith, ew, ex, h, l)) ∙ past-one h
+
+  past-two : w + x ≤ k → getD from3 in3 0 ≡ getD (rulesOf b) k 0
+  past-two h = later-rule 2 from3 (b .rule2) in2 (omega (arith, ew, ex, h)) ∙ past-one (omega (arith, h))
+
+  pub rule-three : w + x ≤ k → k < w + x + y → 3 ≡ getD (rulesOf b) k 0
+  rule-three h l = first-rule 3 (only (b .rule4) 4) (b .rule3) in3 (omega (arith, ew, ex, ey, h, l)) ∙ past-two h
+
+  past-three : w + x + y ≤ k → getD (only (b .rule4) 4) in4 0 ≡ getD (rulesOf b) k 0
+  past-three h = later-rule 3 (only (b .rule4) 4) (b .rule3) in3 (omega (arith, ew, ex, ey, h)) ∙ past-two (omega (arith, h))
+
+  pub rule-four : w + x + y ≤ k → k < w + x + y + z → 4 ≡ getD (rulesOf b) k 0
+  rule-four h l =
+      rw (append-nil (only (b .rule4) 4)) at (first-rule 4 [] (b .rule4) in4 (omega (arith, ew, ex, ey, ez, h, l))) ∙ past-three h
+
+  pub rule-none : w + x + y + z ≤ k → 0 ≡ getD (rulesOf b) k 0
   rule-none h =
-      rw (append-nil (only (b .rule3) 3)) at
-      (later-rule 3 [] (b .rule3) (k - one (b .rule1) - one (b .rule2)) (omega (arith, ex, ey, ez, h)))
-      ∙ past-two (omega (arith, ex, ey, ez, h))
+      rw (append-nil (only (b .rule4) 4)) at (later-rule 4 [] (b .rule4) in4 (omega (arith, ew, ex, ey, ez, h)))
+      ∙ past-three (omega (arith, h))

@@ -2,29 +2,33 @@
 ghost use mathlib.Core.Path.{_≡_};
 ghost use Prim.Native.Nat.{_-_, _≤_};
 ghost use lib.ListN.{length, getD};
-ghost use Rattle.timing.specs.Lint.{soonAfter, breaks1, breaks2, breaks3, brokenBy, only, rulesOf, freshTimes, timesAfter};
+ghost use Rattle.timing.specs.Lint.{soonAfter, breaks1, breaks2, breaks3, breaks4, brokenBy, only, rulesOf, freshTimes, timesAfter};
 use codes::Kind;
 
 const SLPOUT_SETTLE: u64 = 5_000_000;
 
 const SLEEP_CYCLE: u64 = 120_000_000;
 
+const SWRESET_SETTLE: u64 = 5_000_000;
+
 pub enum Moment {
     Never,
     At(u64),
 }
 
-// When the panel last left sleep, if it has, and when it last entered it.
+// When the panel last left sleep, if it has, when it last entered it, and when it was last reset by a command, if it was.
 pub struct Times {
     pub slpout: Moment,
     pub slpin: u64,
+    pub swreset: Moment,
 }
 
-// Which of the three rules a command breaks.
+// Which of the four rules a command breaks.
 pub struct Broken {
     pub rule1: bool,
     pub rule2: bool,
     pub rule3: bool,
+    pub rule4: bool,
 }
 
 fn elapsed(since: u64, t: u64) -> u64
@@ -67,17 +71,27 @@ fn ramwr_wrong_colmod(colmod: u8, kind: Kind) -> bool
     kind.starts_run() & (colmod != 0x55)
 }
 
-// What a command of this kind breaks at time t.
-pub fn lint(times: Times, colmod: u8, kind: Kind, t: u64) -> Broken
-    ensures answer { λ r. ⌜ r ≡ brokenBy times colmod kind t ⌝ }
+// A command less than 5 ms after SWRESET, under the strict profile.
+fn command_after_swreset(strict: bool, times: Times, t: u64) -> bool
+    ensures { λ r. ⌜ r ≡ breaks4 strict times t ⌝ }
+{
+    let swreset = times.swreset;
+    strict & soon_after(swreset, t, SWRESET_SETTLE)
+}
+
+// What a command of this kind breaks at time t, under the strict profile or the plain one.
+pub fn lint(strict: bool, times: Times, colmod: u8, kind: Kind, t: u64) -> Broken
+    ensures answer { λ r. ⌜ r ≡ brokenBy strict times colmod kind t ⌝ }
 {
     let rule1 = command_after_slpout(times, kind, t);
     let rule2 = sleep_cycle_too_fast(times, kind, t);
     let rule3 = ramwr_wrong_colmod(colmod, kind);
+    let rule4 = command_after_swreset(strict, times, t);
     Broken {
         rule1,
         rule2,
         rule3,
+        rule4,
     }
 }
 
@@ -93,7 +107,7 @@ impl Broken {
     pub fn count(self) -> usize
         ensures answer { λ r. ⌜ r ≡ length (rulesOf self) ⌝ }
     {
-        one(self.rule1) + one(self.rule2) + one(self.rule3)
+        one(self.rule1) + one(self.rule2) + one(self.rule3) + one(self.rule4)
     }
 
     // The number of the broken rule that stands at k in their order, 0 past the last.
@@ -102,15 +116,19 @@ impl Broken {
     {
         let two = one(self.rule1);
         let three = two + one(self.rule2);
-        let end = three + one(self.rule3);
+        let four = three + one(self.rule3);
+        let end = four + one(self.rule4);
         if k < two {
             return 1;
         }
         if k < three {
             return 2;
         }
-        if k < end {
+        if k < four {
             return 3;
+        }
+        if k < end {
+            return 4;
         }
         0
     }
@@ -118,8 +136,8 @@ impl Broken {
 
 impl Moment {
     // The same moment, made anew. A copy would take its padding along, and the next one would wait for that.
-    pub fn anew(self) -> Moment
-        ensures answer { λ r. ⌜ r ≡ self ⌝ }
+    fn anew(self) -> Moment
+        ensures { λ r. ⌜ r ≡ self ⌝ }
     {
         match self {
             Moment::Never => Moment::Never,
@@ -135,6 +153,20 @@ impl Times {
         Times {
             slpout: Moment::Never,
             slpin: 0,
+            swreset: Moment::Never,
+        }
+    }
+
+    // The same times, made anew.
+    pub fn anew(self) -> Times
+        ensures answer { λ r. ⌜ r ≡ self ⌝ }
+    {
+        let slpout = self.slpout;
+        let swreset = self.swreset;
+        Times {
+            slpout: slpout.anew(),
+            slpin: self.slpin,
+            swreset: swreset.anew(),
         }
     }
 
@@ -142,26 +174,26 @@ impl Times {
     pub fn after(self, kind: Kind, t: u64) -> Times
         ensures answer { λ r. ⌜ r ≡ timesAfter self kind t ⌝ }
     {
-        let old = self.slpout;
-        let slpout = old.anew();
+        let times = self.anew();
         if !kind.has_effect() {
-            return Times {
-                slpout,
-                slpin: self.slpin,
-            };
+            return times;
         }
         if kind.is(Kind::Slpout) {
             return Times {
                 slpout: Moment::At(t),
-                slpin: self.slpin,
+                ..times
             };
         }
-        if kind.is(Kind::Slpin) | kind.is(Kind::Swreset) {
-            return Times { slpout, slpin: t };
+        if kind.is(Kind::Slpin) {
+            return Times { slpin: t, ..times };
         }
-        Times {
-            slpout,
-            slpin: self.slpin,
+        if kind.is(Kind::Swreset) {
+            return Times {
+                slpin: t,
+                swreset: Moment::At(t),
+                ..times
+            };
         }
+        times
     }
 }

@@ -1,5 +1,6 @@
 //! Takes the three Rust sources unchanged, checks their SHA-256 and puts them where rustc finds them.
-//! What a copy needs to let us at its private fields is appended after the unchanged bytes.
+//! What a copy needs to let us at its private fields is appended after the unchanged bytes. A model of
+//! our own goes with them, so that mutants can be made of it too.
 
 use std::env;
 use std::fs;
@@ -31,6 +32,9 @@ const SOURCES: [Source; 3] = [
     },
 ];
 
+/// The models beside the Rust, in src/: of what it does not have.
+const MODELS: [&str; 1] = ["profile"];
+
 fn main() {
     let package = PathBuf::from(env::var("CARGO_MANIFEST_DIR").expect("set by Cargo"));
     let out = PathBuf::from(env::var("OUT_DIR").expect("set by Cargo"));
@@ -51,16 +55,28 @@ fn main() {
     for source in &SOURCES {
         let copy = out.join(format!("{}.rs", source.module));
         take(&find(&folder, source), source, &package, &copy, &changes);
-        modules.push_str(&format!(
-            "#[allow(dead_code)]\n#[path = {:?}]\npub mod {};\n",
-            text(&copy),
-            source.module
-        ));
+        modules.push_str(&module(&copy, source.module));
+    }
+    for model in MODELS {
+        let from = package.join("src").join(format!("{model}.rs"));
+        println!("cargo::rerun-if-changed={}", text(&from));
+        let Ok(bytes) = fs::read(&from) else {
+            refuse(&format!("cannot read {}", text(&from)));
+        };
+        let copy = out.join(format!("{model}.rs"));
+        write(&copy, &change(&bytes, model, &changes));
+        modules.push_str(&module(&copy, model));
     }
     write(&out.join("sources.rs"), modules.as_bytes());
 }
 
-/// A line of a source's copy that PANEL_CHANGE has replaced.
+/// A module of the crate that stands in this file.
+fn module(file: &Path, name: &str) -> String {
+    let file = text(file);
+    format!("#[allow(dead_code)]\n#[path = {file:?}]\npub mod {name};\n")
+}
+
+/// A line of a copy that PANEL_CHANGE has replaced.
 struct Change {
     module: String,
     number: usize,

@@ -22,8 +22,8 @@ pub struct Case {
 }
 
 impl Case {
-    /// Case `number` of a seed: every fifth a log, else a script with a dump after every publish, or
-    /// one of many publishes with looks at rows.
+    /// Case `number` of a seed: every fifth a log, else a script, most of them with a dump after every
+    /// publish.
     pub fn of(seed: u64, number: u64) -> Case {
         let own = case_seed(seed, number);
         if number % 5 == 4 {
@@ -32,11 +32,14 @@ impl Case {
                 input: gen_logs::log_of(own, 25),
             };
         }
-        // Of 24 scripts one is long, one looks at many brightness pairs, one publishes many times.
+        // Of 24 scripts one is long, one looks at many brightness pairs, one publishes many times, one
+        // goes by the pauses of the lint, and one begins commands where the lists are full.
         let input = match number % 24 {
             0 => with_dumps(&gen_scripts::script_of(own, 14)),
             6 => gen_scripts::publishing_of(own).into_bytes(),
             12 => with_dumps(&gen_scripts::dimming_of(own)),
+            18 => with_dumps(&gen_scripts::pauses_of(own)),
+            21 => gen_scripts::full_lists_of(own).into_bytes(),
             _ => with_dumps(&gen_scripts::script_of(own, 2)),
         };
         Case {

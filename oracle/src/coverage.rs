@@ -2,10 +2,9 @@
 
 use std::collections::{BTreeMap, BTreeSet};
 
-use pemu_core::time::VTime;
-
+use crate::profile::Profile;
 use crate::refusals::{bad_clauses, high_counts};
-use crate::report::{RULES, above_full, line};
+use crate::report::{above_full, line, rule_of};
 use crate::st7789::reach::{Fates, fates, hidden};
 use crate::st7789::{MAX_PARAMS, STORED_COMMANDS, St7789p3, TRACE_LIMIT};
 
@@ -23,7 +22,9 @@ pub struct Coverage {
     /// Refusals by the call's name and their number.
     refusals: BTreeMap<(String, u8), u64>,
     /// Warnings kept, by rule.
-    warnings: [u64; 3],
+    warnings: [u64; 4],
+    /// Command segments under the strict profile: those within 5 ms of a SWRESET before them, and others.
+    strict: [u64; 2],
     pixels: Fates,
     /// Stored pixels under each MADCTL value.
     madctl: BTreeMap<u8, u64>,
@@ -199,10 +200,11 @@ impl Coverage {
         }
     }
 
-    /// Runs the Rust's transfer and counts what it did.
+    /// Runs the Rust's transfer under a profile and counts what it did.
     pub fn transfer(
         &mut self,
         panel: &mut St7789p3,
+        profile: &mut Profile,
         time: u64,
         dc: bool,
         bytes: &[u8],
@@ -227,12 +229,15 @@ impl Coverage {
             }
             let full = panel.trace().len().min(panel.warnings().len()) >= TRACE_LIMIT;
             self.together[usize::from(waiting)] += u64::from(full && bytes.len() > 1);
+            let reset = profile.swreset;
+            let soon = reset.is_some_and(|reset| time.saturating_sub(reset) < 5_000_000);
+            self.strict[usize::from(!soon)] += u64::from(profile.strict && !bytes.is_empty());
         }
         if self.names {
             self.name_transfer(panel, dc, bytes, release, fate);
         }
         let (written, kept) = (panel.pixels_written(), panel.warnings().len());
-        panel.transfer(VTime(time), dc, bytes, release);
+        profile.transfer(panel, time, dc, bytes, release);
         let counted = panel.pixels_written() - written;
         assert_eq!(
             counted,
@@ -241,10 +246,9 @@ impl Coverage {
         );
         for at in kept..panel.warnings().len() {
             let warning = panel.warnings()[at];
-            let rule = RULES.iter().position(|rule| *rule == warning.lint);
-            let rule = rule.expect("one of the three rules");
-            self.warnings[rule] += 1;
-            self.meet(|| format!("rule {} on {:02x}", rule + 1, known(warning.cmd)));
+            let rule = rule_of(panel.warnings(), at, profile.fours());
+            self.warnings[rule - 1] += 1;
+            self.meet(|| format!("rule {rule} on {:02x}", known(warning.cmd)));
         }
     }
 
@@ -342,6 +346,9 @@ impl Coverage {
         for (rule, count) in other.warnings.iter().enumerate() {
             self.warnings[rule] += count;
         }
+        for (of, count) in other.strict.iter().enumerate() {
+            self.strict[of] += count;
+        }
         self.met.extend(other.met);
     }
 
@@ -380,10 +387,19 @@ impl Coverage {
             let all: u64 = of.values().sum();
             line(&mut out, format_args!("  {number}: {all}:{}", list(&of)));
         }
-        let [first, second, third] = self.warnings;
+        let [first, second, third, fourth] = self.warnings;
         line(
             &mut out,
-            format_args!("warnings kept: rule 1 {first}, rule 2 {second}, rule 3 {third}"),
+            format_args!(
+                "warnings kept: rule 1 {first}, rule 2 {second}, rule 3 {third}, rule 4 {fourth}"
+            ),
+        );
+        let [soon, late] = self.strict;
+        line(
+            &mut out,
+            format_args!(
+                "command segments under strict (Q-14): {soon} less than 5 ms after a SWRESET, {late} others"
+            ),
         );
         let p = self.pixels;
         line(

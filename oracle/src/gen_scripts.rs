@@ -3,7 +3,7 @@
 use crate::log::Segment;
 use crate::random::Random;
 use crate::st7789::STORED_COMMANDS;
-use crate::traffic::Traffic;
+use crate::traffic::{COMMANDS, Traffic};
 
 /// No line is added that would end past this many bytes (a comment or spaces may come on top).
 const SCRIPT_LIMIT: usize = 65_000;
@@ -38,7 +38,7 @@ const DOMAINS: [&str; 7] = [
 const VIEWS: [&str; 3] = ["raw", "glass", "perceived"];
 
 /// Lines that make no sense.
-const BAD_LINES: [&str; 55] = [
+const BAD_LINES: [&str; 60] = [
     "transfer",
     "transfer 0 0 0",
     "transfer 0 0 0 2c 00",
@@ -72,6 +72,9 @@ const BAD_LINES: [&str; 55] = [
     "reset board",
     "reset",
     "fresh",
+    "fresh 1 2",
+    "fresh 2 1",
+    "fresh 1 1 1 1",
     "publish 1",
     "view all",
     "pixels",
@@ -89,7 +92,9 @@ const BAD_LINES: [&str; 55] = [
     "set stored 2c 00",
     "set stored none",
     "set warnings 0 2c 0",
-    "set warnings 4 2c 0",
+    "set warnings 5 2c 0",
+    "set strict 2",
+    "set swreset",
     "set current 256",
     "set params 00*256",
     "set ramctrl 00",
@@ -209,6 +214,107 @@ pub fn publishing_of(seed: u64) -> String {
         let any = random.below(320);
         for row in [first.saturating_sub(1), first, last, last + 1, any] {
             writer.line(format!("row frame {row}"));
+        }
+    }
+    writer.text(random)
+}
+
+/// A script of commands around the pauses of the lint, mostly under the strict profile: each
+/// alone or with others in a segment, before, at and after 5 ms since the last SWRESET, or since some
+/// other command, and before it.
+pub fn pauses_of(seed: u64) -> String {
+    let random = &mut Random::new(seed);
+    let mut writer = Writer {
+        lines: Vec::new(),
+        pixels: 9,
+    };
+    let strict = u8::from(!random.one_in(8));
+    writer.line(format!("fresh {} {strict}", random.below(2)));
+    let mut time: u64 = random.pick(&[0, 0, 200_000_000, u64::MAX - 20_000_000]);
+    let mut since = time;
+    for _ in 0..500 {
+        time = match random.below(10) {
+            0 | 1 => time,
+            2 => since.saturating_add(4_999_999),
+            3 => since.saturating_add(5_000_000),
+            4 => since.saturating_add(random.below(10_000_000)),
+            5 => since.saturating_sub(random.below(3)),
+            6 => time.saturating_add(random.below(8_000_000)),
+            _ => time.saturating_add(random.below(800_000)),
+        };
+        let bytes = pause_commands(random);
+        if bytes.contains(&0x01) || random.one_in(8) {
+            since = time;
+        }
+        let name = if random.one_in(9) { "bare" } else { "transfer" };
+        let release = u8::from(random.one_in(6));
+        let bytes = bytes_text(random, &bytes);
+        writer.line(format!("{name} {time} 0 {release} {bytes}"));
+        match random.below(30) {
+            0 | 1 => writer.line("take-warnings"),
+            2 => writer.line(format!("set colmod {}", random.pick(&["55", "66"]))),
+            3 if random.one_in(3) => writer.line(format!("reset {}", random.pick(&DOMAINS))),
+            4 if random.one_in(4) => writer.any_call(random),
+            5 => writer.line(format!("transfer {time} 1 0 f800")),
+            _ => {}
+        }
+    }
+    writer.text(random)
+}
+
+/// One command, or a few in a segment, SWRESET often.
+fn pause_commands(random: &mut Random) -> Vec<u8> {
+    let count = random.pick(&[1, 1, 1, 1, 1, 2, 3, 5]);
+    let codes = [
+        0x01, 0x01, 0x01, 0x00, 0x10, 0x11, 0x29, 0x2a, 0x2c, 0x3c, 0xb2,
+    ];
+    (0..count).map(|_| random.pick(&codes)).collect()
+}
+
+/// A script of segments of several commands where trace and warnings are full, under either
+/// profile, with a byte waiting or none, and data for the last command.
+pub fn full_lists_of(seed: u64) -> String {
+    let random = &mut Random::new(seed);
+    let mut writer = Writer {
+        lines: Vec::new(),
+        pixels: 9,
+    };
+    writer.line(format!("fresh {} {}", random.below(2), random.below(2)));
+    writer.line("transfer 0 0 0 2c*130");
+    for time in 0..300 {
+        if random.one_in(3) {
+            writer.line(format!(
+                "transfer {time} 0 0 {}",
+                random.pick(&["2c", "3c"])
+            ));
+            let bytes = random.pick(&["f8", "f80007", "f80007e0", "-"]);
+            writer.line(format!("transfer {time} 1 0 {bytes}"));
+        }
+        let count = random.within(2, 12);
+        let plain = random.one_in(2);
+        let code = |random: &mut Random| match plain {
+            true => random.pick(&[0x00, 0x00, 0x2a, 0x36, 0x3c, 0xb2, 0xe0]),
+            false => random.pick(&COMMANDS),
+        };
+        let commands: Vec<u8> = (0..count).map(|_| code(random)).collect();
+        let name = if random.one_in(9) { "bare" } else { "transfer" };
+        let release = u8::from(random.one_in(9));
+        let bytes = bytes_text(random, &commands);
+        writer.line(format!("{name} {time} 0 {release} {bytes}"));
+        let length = random.pick(&[0, 1, 2, 3, 4, 4, 15]);
+        let bytes = random.bytes(length);
+        let bytes = bytes_text(random, &bytes);
+        writer.line(format!("transfer {time} 1 0 {bytes}"));
+        match random.below(30) {
+            0..=5 => writer.line("publish"),
+            6 => writer.line("dump"),
+            7 => writer.line("boot"),
+            8 if random.one_in(2) => {
+                writer.line("take-warnings");
+                writer.line("set colmod 66");
+                writer.line(format!("transfer {time} 0 0 2c*130"));
+            }
+            _ => {}
         }
     }
     writer.text(random)
@@ -362,7 +468,7 @@ impl Writer {
             8 => self.line("mark-all"),
             9 => self.line("take-warnings"),
             10 => self.line(format!("reset {}", random.pick(&DOMAINS))),
-            11 if random.one_in(3) => self.line(format!("fresh {}", random.below(2))),
+            11 if random.one_in(3) => self.fresh(random),
             12 => self.view(random),
             13..=15 => self.pixel(random),
             16..=18 => self.row(random),
@@ -370,6 +476,12 @@ impl Writer {
             21 if random.one_in(4) => self.line("dump"),
             _ => self.line("transfer 0 1 0 -"),
         }
+    }
+
+    /// A panel made anew, with its profile named or left out.
+    fn fresh(&mut self, random: &mut Random) {
+        let profile = random.pick(&["", "", " 0", " 1", " 1"]);
+        self.line(format!("fresh {}{profile}", random.below(2)));
     }
 
     /// A whole view by its digest, or at times by its pixels.
@@ -454,7 +566,7 @@ impl Writer {
             self.line(format!("lend {of} {}", random.pick(&LENGTHS)));
         }
         if random.one_in(3) {
-            self.line(format!("fresh {}", random.below(2)));
+            self.fresh(random);
         }
         if random.one_in(6) {
             self.line("transfer 0 1 0 00*65537");
@@ -500,7 +612,7 @@ impl Writer {
 
     /// One field at a value within the table.
     fn good_field(&mut self, random: &mut Random) {
-        let line = match random.below(15) {
+        let line = match random.below(18) {
             0 => format!("set madctl {:02x}", random.byte()),
             1 => format!("set colmod {}", random.pick(&["55", "66", "00"])),
             2 => format!("set ramctrl {:04x}", random.below(65_536)),
@@ -538,6 +650,11 @@ impl Writer {
             11 => format!("set stored {:02x} none", random.pick(STORED_COMMANDS)),
             12 => format!("set memory {:04x}", random.below(65_536)),
             13 => format!("set frame {:04x}", random.below(65_536)),
+            14 | 15 => format!("set strict {}", random.below(2)),
+            16 => format!(
+                "set swreset {}",
+                random.pick(&["none", "0", "1", "3", "4999994", "18446744073709551615"])
+            ),
             _ => format!("set carry {}", random.pick(&["none", "00", "f8"])),
         };
         self.line(line);
@@ -721,7 +838,7 @@ impl Writer {
         } else {
             self.line("set warnings none");
             for at in 0..count {
-                let rule = random.within(1, 3);
+                let rule = random.within(1, 4);
                 self.line(format!("set warnings {rule} {:02x} {at}", random.byte()));
             }
         }

@@ -3,6 +3,7 @@
 use pemu_core::time::VTime;
 
 use crate::coverage::Coverage;
+use crate::profile::Profile;
 use crate::refusals::{BAD_LOG, LOG_LIMIT, LOG_LONG};
 use crate::report::replay_lines;
 use crate::st7789::{PanelConfig, St7789p3};
@@ -78,16 +79,18 @@ pub fn replay_seen(log: &[u8], mut seen: Option<&mut Coverage>) -> String {
     let mut panel = St7789p3::new(PanelConfig {
         invon_shows_ram: true,
     });
+    // "chosen at the start": in a log nothing is, so it goes by the plain profile, as the Rust does.
+    let mut profile = Profile::new(false);
     for r in &records {
         match &mut seen {
             None => panel.transfer(VTime(r.time), r.dc, &r.bytes, r.release),
             Some(seen) => {
                 seen.call("record");
-                seen.transfer(&mut panel, r.time, r.dc, &r.bytes, r.release);
+                seen.transfer(&mut panel, &mut profile, r.time, r.dc, &r.bytes, r.release);
             }
         }
     }
     let mut out = String::new();
-    replay_lines(&panel, &mut out);
+    replay_lines(&panel, &profile, &mut out);
     out
 }

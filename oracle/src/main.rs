@@ -20,7 +20,7 @@ mod report;
 mod script;
 mod traffic;
 
-// The modules st7789, backlight and traits, as the build script put them there.
+// The modules st7789, backlight, traits and profile, as the build script put them there.
 include!(concat!(env!("OUT_DIR"), "/sources.rs"));
 
 /// Stand-in for the module that traits.rs imports.

@@ -1,9 +1,11 @@
 //! What is printed of a panel: the lines of panel-replay, the rest of the dump, and digests.
 
+use std::collections::BTreeSet;
 use std::fmt::Write;
 use std::sync::atomic::{AtomicBool, Ordering};
 
 use crate::backlight::reach::pair;
+use crate::profile::Profile;
 use crate::st7789::reach::{fields, hidden};
 use crate::st7789::{FrameView, MAX_PARAMS, PANEL_WIDTH, St7789p3, TRACE_LIMIT};
 use crate::st7789::{TimingLint, TimingWarning, TraceEntry};
@@ -14,7 +16,7 @@ pub const VIEWS: [(&str, FrameView); 3] = [
     ("perceived", FrameView::Perceived),
 ];
 
-/// The three rules of the lint by their numbers in document 01.
+/// The rules 1 to 3 of the lint, by their numbers in document 01; rule 4 is Q-14's.
 pub const RULES: [TimingLint; 3] = [
     TimingLint::CommandAfterSlpout,
     TimingLint::SleepCycleTooFast,
@@ -22,7 +24,7 @@ pub const RULES: [TimingLint; 3] = [
 ];
 
 /// The lines that panel-replay prints: regs, win, cnt, dirty, boot, w.., t..
-pub fn replay_lines(panel: &St7789p3, out: &mut String) {
+pub fn replay_lines(panel: &St7789p3, profile: &Profile, out: &mut String) {
     let [r0, r1] = panel.ramctrl();
     line(
         out,
@@ -54,7 +56,7 @@ pub fn replay_lines(panel: &St7789p3, out: &mut String) {
         None => line(out, format_args!("boot ok")),
         Some(found) => line(out, format_args!("boot {}", found.step)),
     }
-    warning_lines(panel.warnings(), out);
+    warning_lines(panel.warnings(), profile.fours(), out);
     for record in panel.trace().iter().take(TRACE_LIMIT) {
         line(out, format_args!("{}", record_text(record)));
     }
@@ -82,18 +84,19 @@ pub fn at_most_full<T>(panel: &mut St7789p3, look: impl FnOnce(&St7789p3) -> T) 
 }
 
 /// The whole dump, with the digest of the frame's numbers.
-pub fn dump(panel: &mut St7789p3, frame: &[u16], out: &mut String) {
-    replay_lines(panel, out);
+pub fn dump(panel: &mut St7789p3, profile: &Profile, frame: &[u16], out: &mut String) {
+    replay_lines(panel, profile, out);
     let inner = hidden(panel);
     line(
         out,
         format_args!(
-            "ctl {} {} {} {} {}",
+            "ctl {} {} {} {} {} {}",
             bit(panel.powered()),
             bit(panel.config().invon_shows_ram),
             panel.brightness().level(),
             panel.brightness().scale(),
             inner.frame_duty,
+            bit(profile.strict),
         ),
     );
     line(
@@ -110,9 +113,10 @@ pub fn dump(panel: &mut St7789p3, frame: &[u16], out: &mut String) {
     line(
         out,
         format_args!(
-            "at {} {} {}",
+            "at {} {} {} {}",
             number_or_none(inner.last_slpout),
             number_or_none(inner.last_slpin),
+            number_or_none(profile.swreset),
             number_or_none(inner.trace_cur.map(|at| at as u64)),
         ),
     );
@@ -127,13 +131,16 @@ pub fn dump(panel: &mut St7789p3, frame: &[u16], out: &mut String) {
     }
 }
 
-pub fn warning_lines(warnings: &[TimingWarning], out: &mut String) {
-    for warning in warnings.iter().take(TRACE_LIMIT) {
-        let rule = match warning.lint {
-            TimingLint::CommandAfterSlpout => 1,
-            TimingLint::SleepCycleTooFast => 2,
-            TimingLint::RamwrWrongColmod => 3,
-        };
+/// The number of the rule of the warning at a place; `fours` has the places of rule 4.
+pub fn rule_of(warnings: &[TimingWarning], at: usize, fours: &BTreeSet<usize>) -> usize {
+    let rule = RULES.iter().position(|rule| *rule == warnings[at].lint);
+    let rule = rule.expect("one of the three rules") + 1;
+    if fours.contains(&at) { 4 } else { rule }
+}
+
+pub fn warning_lines(warnings: &[TimingWarning], fours: &BTreeSet<usize>, out: &mut String) {
+    for (at, warning) in warnings.iter().take(TRACE_LIMIT).enumerate() {
+        let rule = rule_of(warnings, at, fours);
         line(
             out,
             format_args!("w {rule} {:02x} {}", warning.cmd, warning.at.0),

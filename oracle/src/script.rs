@@ -8,6 +8,7 @@ use pemu_core::time::VTime;
 use crate::backlight::Brightness;
 use crate::backlight::reach::pair;
 use crate::coverage::Coverage;
+use crate::profile::Profile;
 use crate::refusals::{self, Lent};
 use crate::report::{self, RULES, UNGUARDED, VIEWS, at_most_full, bit, digest, line};
 use crate::st7789::reach::fields;
@@ -24,10 +25,11 @@ const LEND_LIMIT: u64 = PANEL_PIXELS as u64 + 1;
 /// The highest count of a list that `set` makes.
 const COUNT_LIMIT: usize = 255;
 
-/// The panel with its memory inside, the frame, the lengths with which buffers are lent, and what
-/// was seen of the calls, where that is asked for.
+/// The panel with its memory inside, what Q-14 adds to it, the frame, the lengths with which buffers
+/// are lent, and what was seen of the calls, where that is asked for.
 struct Bench<'a> {
     panel: St7789p3,
+    profile: Profile,
     port: FramePort,
     lent: Lent,
     seen: Option<&'a mut Coverage>,
@@ -49,6 +51,7 @@ pub fn run_unguarded(script: &[u8]) -> String {
 pub fn run_seen(script: &[u8], seen: Option<&mut Coverage>) -> String {
     let mut bench = Bench {
         panel: fresh(true),
+        profile: Profile::new(false),
         port: FramePort::zeros(PANEL_PIXELS),
         lent: Lent::FULL,
         seen,
@@ -65,7 +68,12 @@ pub fn run_seen(script: &[u8], seen: Option<&mut Coverage>) -> String {
             return out;
         }
     }
-    report::dump(&mut bench.panel, &bench.port.pixels, &mut out);
+    report::dump(
+        &mut bench.panel,
+        &bench.profile,
+        &bench.port.pixels,
+        &mut out,
+    );
     out
 }
 
@@ -99,11 +107,12 @@ impl Bench<'_> {
         done
     }
 
-    /// The Rust's transfer.
+    /// The Rust's transfer, under the panel's profile.
     fn transfer(&mut self, time: u64, dc: bool, bytes: &[u8], release: bool) {
+        let (panel, profile) = (&mut self.panel, &mut self.profile);
         match &mut self.seen {
-            None => self.panel.transfer(VTime(time), dc, bytes, release),
-            Some(seen) => seen.transfer(&mut self.panel, time, dc, bytes, release),
+            None => profile.transfer(panel, time, dc, bytes, release),
+            Some(seen) => seen.transfer(panel, profile, time, dc, bytes, release),
         }
     }
 
@@ -142,7 +151,7 @@ impl Bench<'_> {
             [b"take-warnings"] => {
                 let taken = self.panel.take_warnings();
                 line(out, format_args!("taken {}", taken.len()));
-                report::warning_lines(&taken, out);
+                report::warning_lines(&taken, &self.profile.take_fours(), out);
             }
             [b"reset", domain] => {
                 let domain = BoardDomain::ALL
@@ -152,16 +161,23 @@ impl Bench<'_> {
                     self.panel.reset(domain);
                     if domain == BoardDomain::BoardRail {
                         fresh_scale(&mut self.panel);
+                        self.profile.board_rail();
                     }
                 }
             }
-            [b"fresh", switch] => {
+            [b"fresh", switch, strict @ ..] => {
+                let strict = match strict {
+                    [] => false,
+                    [strict] => flag(strict)?,
+                    _ => return None,
+                };
                 let mut panel = fresh(flag(switch)?);
                 if !accepted(refusals::memory(self.lent), out) {
                     // No state came in, so a fresh one is given back; the memory stays.
                     std::mem::swap(fields(&mut panel).ram, fields(&mut self.panel).ram);
                 }
                 self.panel = panel;
+                self.profile = Profile::new(strict);
             }
             [b"publish"] => {
                 if accepted(refusals::publish(&self.panel, self.lent), out) {
@@ -212,9 +228,43 @@ impl Bench<'_> {
             [b"lend", b"memory", length] => self.lent.memory = lendable(length)?,
             [b"lend", b"frame", length] => self.lent.frame = lendable(length)?,
             [b"lend", b"view", length] => self.lent.view = lendable(length)?,
-            [b"dump"] => report::dump(&mut self.panel, &self.port.pixels, out),
+            [b"dump"] => {
+                report::dump(&mut self.panel, &self.profile, &self.port.pixels, out);
+            }
             [b"set", b"frame", pixel] => self.port.pixels.fill(hex(pixel, 4)?),
+            [b"set", b"strict", on] => self.profile.strict = flag(on)?,
+            [b"set", b"swreset", b"none"] => self.profile.swreset = None,
+            [b"set", b"swreset", time] => self.profile.swreset = Some(long(time)?),
+            [b"set", b"warnings", values @ ..] => self.set_warnings(values)?,
             [b"set", field, values @ ..] => set(&mut self.panel, field, values)?,
+            _ => return None,
+        }
+        Some(())
+    }
+
+    /// `set warnings`: one more, or none; `None` when the words make no sense.
+    fn set_warnings(&mut self, values: &[&[u8]]) -> Option<()> {
+        let panel = &mut self.panel;
+        match values {
+            [b"none"] => {
+                fields(panel).warnings.clear();
+                self.profile.take_fours();
+            }
+            [rule, c, time] => {
+                let rule = decimal(rule, 4)? as usize;
+                let (c, time) = (byte_word(c)?, long(time)?);
+                if rule == 0 || panel.warnings().len() == COUNT_LIMIT {
+                    return None;
+                }
+                match RULES.get(rule - 1) {
+                    None => self.profile.warn(panel, c, time),
+                    Some(lint) => fields(panel).warnings.push(TimingWarning {
+                        lint: *lint,
+                        cmd: c,
+                        at: VTime(time),
+                    }),
+                }
+            }
             _ => return None,
         }
         Some(())
@@ -326,19 +376,6 @@ fn set(panel: &mut St7789p3, field: &[u8], values: &[&[u8]]) -> Option<()> {
         }
         (b"current", [b"none"]) => *panel.trace_cur = None,
         (b"current", [index]) => *panel.trace_cur = Some(decimal(index, 255)? as usize),
-        (b"warnings", [b"none"]) => panel.warnings.clear(),
-        (b"warnings", [rule, c, time]) => {
-            let rule = decimal(rule, 3)? as usize;
-            let warning = TimingWarning {
-                lint: *RULES.get(rule.checked_sub(1)?)?,
-                cmd: byte_word(c)?,
-                at: VTime(long(time)?),
-            };
-            if panel.warnings.len() == COUNT_LIMIT {
-                return None;
-            }
-            panel.warnings.push(warning);
-        }
         (b"memory", [pixel]) => panel.ram.fill(hex(pixel, 4)?),
         _ => return None,
     }

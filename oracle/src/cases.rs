@@ -8,7 +8,7 @@ use std::process::{Command, Stdio};
 
 use crate::coverage::Coverage;
 use crate::random::case_seed;
-use crate::{gen_logs, gen_scripts, log, script};
+use crate::{gen_aimed, gen_logs, gen_scripts, log, script};
 
 #[derive(Copy, Clone, PartialEq)]
 pub enum Kind {
@@ -36,10 +36,10 @@ impl Case {
         // goes by the pauses of the lint, and one begins commands where the lists are full.
         let input = match number % 24 {
             0 => with_dumps(&gen_scripts::script_of(own, 14)),
-            6 => gen_scripts::publishing_of(own).into_bytes(),
-            12 => with_dumps(&gen_scripts::dimming_of(own)),
-            18 => with_dumps(&gen_scripts::pauses_of(own)),
-            21 => gen_scripts::full_lists_of(own).into_bytes(),
+            6 => gen_aimed::publishing_of(own).into_bytes(),
+            12 => with_dumps(&gen_aimed::dimming_of(own)),
+            18 => with_dumps(&gen_aimed::pauses_of(own)),
+            21 => gen_aimed::full_lists_of(own).into_bytes(),
             _ => with_dumps(&gen_scripts::script_of(own, 2)),
         };
         Case {

@@ -3,7 +3,7 @@
 use crate::log::Segment;
 use crate::random::Random;
 use crate::st7789::STORED_COMMANDS;
-use crate::traffic::{COMMANDS, Traffic};
+use crate::traffic::Traffic;
 
 /// No line is added that would end past this many bytes (a comment or spaces may come on top).
 const SCRIPT_LIMIT: usize = 65_000;
@@ -25,7 +25,7 @@ const COUNTS: [u64; 7] = [
 /// Coordinates at and around the limits.
 const EDGES: [u64; 8] = [0, 1, 239, 240, 318, 319, 320, 65_535];
 
-const DOMAINS: [&str; 7] = [
+pub const DOMAINS: [&str; 7] = [
     "mcu_rail",
     "rtc",
     "board_rail",
@@ -109,10 +109,7 @@ pub fn script(seed: u64) -> String {
 /// The script of a seed with at most this many scenes.
 pub fn script_of(seed: u64, most: u64) -> String {
     let random = &mut Random::new(seed);
-    let mut writer = Writer {
-        lines: Vec::new(),
-        pixels: if most > 6 { 9 } else { 3 },
-    };
+    let mut writer = Writer::new(if most > 6 { 9 } else { 3 });
     if random.one_in(if most > 6 { 5 } else { 12 }) {
         writer.boot(random);
     }
@@ -144,207 +141,25 @@ pub fn script_of(seed: u64, most: u64) -> String {
     writer.text(random)
 }
 
-/// A lit panel with a few hundred pixels of any colour, looked at through many brightness pairs.
-pub fn dimming_of(seed: u64) -> String {
-    let random = &mut Random::new(seed);
-    let mut writer = Writer {
-        lines: Vec::new(),
-        pixels: 9,
-    };
-    writer.line("power 1");
-    writer.line("transfer 0 0 0 11292c");
-    let bytes = random.bytes(960);
-    writer.line(format!("transfer 0 1 1 {}", bytes_text(random, &bytes)));
-    for _ in 0..600 {
-        let (level, scale) = pair_of(random);
-        writer.line(format!("brightness {level} {scale} 0"));
-        let (x, y) = (random.below(240), random.below(2));
-        writer.line(format!("pixel perceived {x} {y}"));
-        if random.one_in(60) {
-            writer.line(random.pick(&["view perceived", "switch 0", "switch 1"]));
-        }
-    }
-    writer.text(random)
-}
-
-/// A brightness pair: small, at the largest numbers, near one another, or any; mostly brighter than
-/// full.
-fn pair_of(random: &mut Random) -> (u64, u64) {
-    let most = u64::from(u32::MAX);
-    let (a, b) = match random.below(4) {
-        0 => (random.below(9), random.below(9)),
-        1 => (most - random.below(3), random.below(70)),
-        2 => {
-            let near = random.within(1, most - 1);
-            (near, near - 1 + random.below(3))
-        }
-        _ => (random.below(most + 1), random.below(most + 1)),
-    };
-    if random.one_in(4) {
-        (a.min(b), a.max(b))
-    } else {
-        (a.max(b), a.min(b))
-    }
-}
-
-/// A script of many publishes, each into a frame of one colour, with the frame's rows looked at
-/// where the copied rows begin and end. The panel's rows are of any colours, and so are the first
-/// and the last pixel of each.
-pub fn publishing_of(seed: u64) -> String {
-    let random = &mut Random::new(seed);
-    let mut writer = Writer {
-        lines: Vec::new(),
-        pixels: 9,
-    };
-    writer.line("transfer 0 0 0 2c");
-    for rows in [136, 136, 48] {
-        let colour = |random: &mut Random| random.below(65_536);
-        let row = |random: &mut Random| {
-            let (first, middle, last) = (colour(random), colour(random), colour(random));
-            format!("{first:04x},{middle:04x}*238,{last:04x}")
-        };
-        let rows: Vec<String> = (0..rows).map(|_| row(random)).collect();
-        writer.line(format!("transfer 0 1 0 {}", rows.join(",")));
-    }
-    for _ in 0..320 {
-        let (first, last) = span_of(random);
-        writer.line(format!("set frame {:04x}", random.below(65_536)));
-        writer.line(format!("set dirty {first} {last}"));
-        writer.line("publish");
-        let any = random.below(320);
-        for row in [first.saturating_sub(1), first, last, last + 1, any] {
-            writer.line(format!("row frame {row}"));
-        }
-    }
-    writer.text(random)
-}
-
-/// A script of commands around the pauses of the lint, mostly under the strict profile: each
-/// alone or with others in a segment, before, at and after 5 ms since the last SWRESET, or since some
-/// other command, and before it.
-pub fn pauses_of(seed: u64) -> String {
-    let random = &mut Random::new(seed);
-    let mut writer = Writer {
-        lines: Vec::new(),
-        pixels: 9,
-    };
-    let strict = u8::from(!random.one_in(8));
-    writer.line(format!("fresh {} {strict}", random.below(2)));
-    let mut time: u64 = random.pick(&[0, 0, 200_000_000, u64::MAX - 20_000_000]);
-    let mut since = time;
-    for _ in 0..500 {
-        time = match random.below(10) {
-            0 | 1 => time,
-            2 => since.saturating_add(4_999_999),
-            3 => since.saturating_add(5_000_000),
-            4 => since.saturating_add(random.below(10_000_000)),
-            5 => since.saturating_sub(random.below(3)),
-            6 => time.saturating_add(random.below(8_000_000)),
-            _ => time.saturating_add(random.below(800_000)),
-        };
-        let bytes = pause_commands(random);
-        if bytes.contains(&0x01) || random.one_in(8) {
-            since = time;
-        }
-        let name = if random.one_in(9) { "bare" } else { "transfer" };
-        let release = u8::from(random.one_in(6));
-        let bytes = bytes_text(random, &bytes);
-        writer.line(format!("{name} {time} 0 {release} {bytes}"));
-        match random.below(30) {
-            0 | 1 => writer.line("take-warnings"),
-            2 => writer.line(format!("set colmod {}", random.pick(&["55", "66"]))),
-            3 if random.one_in(3) => writer.line(format!("reset {}", random.pick(&DOMAINS))),
-            4 if random.one_in(4) => writer.any_call(random),
-            5 => writer.line(format!("transfer {time} 1 0 f800")),
-            _ => {}
-        }
-    }
-    writer.text(random)
-}
-
-/// One command, or a few in a segment, SWRESET often.
-fn pause_commands(random: &mut Random) -> Vec<u8> {
-    let count = random.pick(&[1, 1, 1, 1, 1, 2, 3, 5]);
-    let codes = [
-        0x01, 0x01, 0x01, 0x00, 0x10, 0x11, 0x29, 0x2a, 0x2c, 0x3c, 0xb2,
-    ];
-    (0..count).map(|_| random.pick(&codes)).collect()
-}
-
-/// A script of segments of several commands where trace and warnings are full, under either
-/// profile, with a byte waiting or none, and data for the last command.
-pub fn full_lists_of(seed: u64) -> String {
-    let random = &mut Random::new(seed);
-    let mut writer = Writer {
-        lines: Vec::new(),
-        pixels: 9,
-    };
-    writer.line(format!("fresh {} {}", random.below(2), random.below(2)));
-    writer.line("transfer 0 0 0 2c*130");
-    for time in 0..300 {
-        if random.one_in(3) {
-            writer.line(format!(
-                "transfer {time} 0 0 {}",
-                random.pick(&["2c", "3c"])
-            ));
-            let bytes = random.pick(&["f8", "f80007", "f80007e0", "-"]);
-            writer.line(format!("transfer {time} 1 0 {bytes}"));
-        }
-        let count = random.within(2, 12);
-        let plain = random.one_in(2);
-        let code = |random: &mut Random| match plain {
-            true => random.pick(&[0x00, 0x00, 0x2a, 0x36, 0x3c, 0xb2, 0xe0]),
-            false => random.pick(&COMMANDS),
-        };
-        let commands: Vec<u8> = (0..count).map(|_| code(random)).collect();
-        let name = if random.one_in(9) { "bare" } else { "transfer" };
-        let release = u8::from(random.one_in(9));
-        let bytes = bytes_text(random, &commands);
-        writer.line(format!("{name} {time} 0 {release} {bytes}"));
-        let length = random.pick(&[0, 1, 2, 3, 4, 4, 15]);
-        let bytes = random.bytes(length);
-        let bytes = bytes_text(random, &bytes);
-        writer.line(format!("transfer {time} 1 0 {bytes}"));
-        match random.below(30) {
-            0..=5 => writer.line("publish"),
-            6 => writer.line("dump"),
-            7 => writer.line("boot"),
-            8 if random.one_in(2) => {
-                writer.line("take-warnings");
-                writer.line("set colmod 66");
-                writer.line(format!("transfer {time} 0 0 2c*130"));
-            }
-            _ => {}
-        }
-    }
-    writer.text(random)
-}
-
-/// The first and the last row of a span: one row, all, from the top, to the bottom, or any.
-fn span_of(random: &mut Random) -> (u64, u64) {
-    let (a, b) = (random.below(320), random.below(320));
-    match random.below(6) {
-        0 => (a, a),
-        1 => (0, 319),
-        2 => (0, b),
-        3 => (a, 319),
-        _ => (a.min(b), a.max(b)),
-    }
-}
-
-struct Writer {
+/// The lines of a script.
+pub struct Writer {
     lines: Vec<String>,
     /// Of so many whole views one is shown by its pixels: fewer in long scripts.
     pixels: u64,
 }
 
 impl Writer {
-    fn line(&mut self, line: impl Into<String>) {
+    pub fn new(pixels: u64) -> Writer {
+        let lines = Vec::new();
+        Writer { lines, pixels }
+    }
+
+    pub fn line(&mut self, line: impl Into<String>) {
         self.lines.push(line.into());
     }
 
     /// The lines with comments, empty lines and more spaces at times; the last newline may lack.
-    fn text(self, random: &mut Random) -> String {
+    pub fn text(self, random: &mut Random) -> String {
         let mut text = String::new();
         for line in self.lines {
             if text.len() + line.len() > SCRIPT_LIMIT {
@@ -459,7 +274,7 @@ impl Writer {
     }
 
     /// One call that is not a transfer.
-    fn any_call(&mut self, random: &mut Random) {
+    pub fn any_call(&mut self, random: &mut Random) {
         match random.below(24) {
             0..=4 => self.line("publish"),
             5 => self.line(format!("power {}", random.below(2))),
@@ -894,7 +709,7 @@ impl Writer {
 }
 
 /// BYTES: hex, cut into pieces at times, with a count where all bytes are the same.
-fn bytes_text(random: &mut Random, bytes: &[u8]) -> String {
+pub fn bytes_text(random: &mut Random, bytes: &[u8]) -> String {
     let Some(first) = bytes.first() else {
         return if random.one_in(30) { "00*0" } else { "-" }.to_string();
     };

@@ -9,6 +9,7 @@ use std::process::ExitCode;
 mod cases;
 mod compare;
 mod coverage;
+mod gen_aimed;
 mod gen_logs;
 mod gen_scripts;
 mod lists;

@@ -90,7 +90,7 @@ pub fn pauses_of(seed: u64) -> String {
             2 => since.saturating_add(4_999_999),
             3 => since.saturating_add(5_000_000),
             4 => since.saturating_add(random.below(10_000_000)),
-            5 => since.saturating_sub(random.below(3)),
+            5 => since.saturating_sub(random.pick(&[1, 2, 5_000_001, 90_000_000])),
             6 => time.saturating_add(random.below(8_000_000)),
             _ => time.saturating_add(random.below(800_000)),
         };

@@ -33,9 +33,11 @@ impl Case {
             };
         }
         // Of 24 scripts one is long, one looks at many brightness pairs, one publishes many times, one
-        // goes by the pauses of the lint, and one begins commands where the lists are full.
+        // goes by the pauses of the lint, one begins commands where the lists are full, and one has windows
+        // in which pixels vanish.
         let input = match number % 24 {
             0 => with_dumps(&gen_scripts::script_of(own, 14)),
+            3 => gen_aimed::vanishing_of(own).into_bytes(),
             6 => gen_aimed::publishing_of(own).into_bytes(),
             12 => with_dumps(&gen_aimed::dimming_of(own)),
             18 => with_dumps(&gen_aimed::pauses_of(own)),

@@ -5,8 +5,9 @@ use std::collections::{BTreeMap, BTreeSet};
 use crate::profile::Profile;
 use crate::refusals::{bad_clauses, high_counts};
 use crate::report::{above_full, line, rule_of};
-use crate::st7789::reach::{Fates, fates, hidden};
+use crate::st7789::reach::hidden;
 use crate::st7789::{MAX_PARAMS, STORED_COMMANDS, St7789p3, TRACE_LIMIT};
+use crate::totals::{Lost, Totals};
 
 /// Lines of a script that are no calls of the model.
 const NO_CALLS: [&str; 3] = ["set", "lend", "dump"];
@@ -25,7 +26,10 @@ pub struct Coverage {
     warnings: [u64; 4],
     /// Command segments under the strict profile: those within 5 ms of a SWRESET before them, and others.
     strict: [u64; 2],
-    pixels: Fates,
+    pixels: Totals,
+    /// Transfers of a run by what became of their pixels: none lost, all inverted, all unmapped, some
+    /// stored and some unmapped.
+    outcomes: [u64; 4],
     /// Stored pixels under each MADCTL value.
     madctl: BTreeMap<u8, u64>,
     /// Commands begun, by their byte.
@@ -71,7 +75,7 @@ impl Coverage {
     }
 
     /// Looks at the state before a line of a script.
-    pub fn before(&mut self, panel: &St7789p3, words: &[&[u8]]) {
+    pub fn before(&mut self, panel: &St7789p3, lost: &Lost, words: &[&[u8]]) {
         let looks = match words {
             [b"view" | b"pixels" | b"pixel", b"perceived", ..] | [b"dump"] => panel.lit(),
             _ => false,
@@ -81,11 +85,11 @@ impl Coverage {
             return;
         }
         let call = text(words[0]);
-        if ["transfer", "bare", "publish"].contains(&call.as_str()) {
+        if ["transfer", "bare", "totals", "publish"].contains(&call.as_str()) {
             for clause in bad_clauses(panel) {
                 self.met.insert(format!("{call} bad state: {clause}"));
             }
-            let counts = high_counts(panel);
+            let counts = high_counts(panel, lost);
             for count in counts.iter().filter(|_| bad_clauses(panel).is_empty()) {
                 self.met.insert(format!("{call} high count: {count}"));
             }
@@ -200,7 +204,7 @@ impl Coverage {
         }
     }
 
-    /// Runs the Rust's transfer under a profile and counts what it did.
+    /// Runs the Rust's transfer under a profile and counts what it did, and what became of its pixels.
     pub fn transfer(
         &mut self,
         panel: &mut St7789p3,
@@ -213,13 +217,11 @@ impl Coverage {
         let run = dc && hidden(panel).in_pixels;
         let waiting = panel.carry().is_some();
         let length = bytes.len() + usize::from(waiting);
-        let mut fate = Fates::default();
+        let totals = Totals::of(panel, dc, bytes);
         if run {
-            fate = fates(panel, length as u64 / 2);
-            self.pixels.stored += fate.stored;
-            self.pixels.inverted += fate.inverted;
-            self.pixels.unmapped += fate.unmapped;
-            *self.madctl.entry(panel.madctl()).or_default() += fate.stored;
+            self.pixels.add(totals);
+            self.count_outcomes(totals);
+            *self.madctl.entry(panel.madctl()).or_default() += totals.stored;
             self.left_waiting += u64::from(length % 2 == 1);
             self.found_waiting += u64::from(waiting);
         }
@@ -234,14 +236,14 @@ impl Coverage {
             self.strict[usize::from(!soon)] += u64::from(profile.strict && !bytes.is_empty());
         }
         if self.names {
-            self.name_transfer(panel, dc, bytes, release, fate);
+            self.name_transfer(panel, dc, bytes, release, totals);
         }
         let (written, kept) = (panel.pixels_written(), panel.warnings().len());
         profile.transfer(panel, time, dc, bytes, release);
         let counted = panel.pixels_written() - written;
         assert_eq!(
             counted,
-            fate.stored + fate.unmapped,
+            totals.stored + totals.unmapped,
             "pixels are counted alike"
         );
         for at in kept..panel.warnings().len() {
@@ -252,6 +254,19 @@ impl Coverage {
         }
     }
 
+    /// Counts a transfer by what became of its pixels.
+    fn count_outcomes(&mut self, totals: Totals) {
+        let of = match (totals.stored, totals.inverted, totals.unmapped) {
+            (0, 0, 0) => return,
+            (_, 0, 0) => 0,
+            (0, _, 0) => 1,
+            (0, 0, _) => 2,
+            _ => 3,
+        };
+        self.outcomes[of] += 1;
+        self.meet(|| format!("outcomes {of}"));
+    }
+
     /// What a transfer meets, by the state before it.
     fn name_transfer(
         &mut self,
@@ -259,7 +274,7 @@ impl Coverage {
         dc: bool,
         bytes: &[u8],
         release: bool,
-        fate: Fates,
+        totals: Totals,
     ) {
         let met = &mut self.met;
         let inner = hidden(panel);
@@ -288,10 +303,10 @@ impl Coverage {
             met.insert(format!("run of {:02x?}", inner.cmd.map(known)));
             let (xs, xe, ys, ye) = panel.window();
             let (x, y) = panel.cursor();
-            if fate.inverted > 0 {
+            if totals.inverted > 0 {
                 met.insert(format!("inverted {} {}", xs > xe, ys > ye));
             }
-            if fate.stored > 0 {
+            if totals.stored > 0 {
                 met.insert(format!(
                     "stored {turned:02x} {}",
                     panel.dirty_rows().is_some()
@@ -302,7 +317,7 @@ impl Coverage {
                     (y < ys, y < ye, y == ye, y > ye)
                 ));
             }
-            if fate.unmapped > 0 {
+            if totals.unmapped > 0 {
                 met.insert(format!("unmapped {turned:02x} {} {}", x > 239, y > 239));
             }
         } else {
@@ -335,9 +350,10 @@ impl Coverage {
         for (of, count) in other.published.iter().enumerate() {
             self.published[of] += count;
         }
-        self.pixels.stored += other.pixels.stored;
-        self.pixels.inverted += other.pixels.inverted;
-        self.pixels.unmapped += other.pixels.unmapped;
+        self.pixels.add(other.pixels);
+        for (of, count) in other.outcomes.iter().enumerate() {
+            self.outcomes[of] += count;
+        }
         sum(&mut self.calls, other.calls);
         sum(&mut self.others, other.others);
         sum(&mut self.refusals, other.refusals);
@@ -407,6 +423,14 @@ impl Coverage {
             format_args!(
                 "pixels: {} stored, {} dropped by an inverted window, {} unmapped",
                 p.stored, p.inverted, p.unmapped
+            ),
+        );
+        let [stored, inverted, unmapped, both] = self.outcomes;
+        line(
+            &mut out,
+            format_args!(
+                "transfers with pixels (Q-3): {stored} stored all, {inverted} in an inverted window, \
+                 {unmapped} stored none, {both} stored some"
             ),
         );
         let values = self.madctl.values().filter(|count| **count > 0).count();

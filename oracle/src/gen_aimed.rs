@@ -1,5 +1,5 @@
 //! Generated scripts that go at one thing many times: brightness pairs, publishes, the pauses of the
-//! lint, commands where the lists are full.
+//! lint, commands where the lists are full, windows in which pixels vanish.
 
 use crate::gen_scripts::{DOMAINS, Writer, bytes_text};
 use crate::random::Random;
@@ -167,6 +167,77 @@ pub fn full_lists_of(seed: u64) -> String {
         }
     }
     writer.text(random)
+}
+
+/// A script of windows in which pixels vanish: inverted ones, and ones set under another MADCTL
+/// than they are filled under. Each is filled by a few segments of any length, with their totals.
+pub fn vanishing_of(seed: u64) -> String {
+    let random = &mut Random::new(seed);
+    let mut writer = Writer::new(9);
+    for time in 0..160 {
+        let madctl =
+            |random: &mut Random| random.pick(&[0x00, 0x20, 0x40, 0x60, 0x80, 0xa0, 0xc0, 0xe0]);
+        for command in [0x2a, 0x2b] {
+            if random.one_in(2) {
+                writer.line("transfer 0 0 0 36");
+                writer.line(format!("transfer 0 1 0 {:02x}", madctl(random)));
+            }
+            let (first, last) = corners_of(random);
+            writer.line(format!("transfer 0 0 0 {command:02x}"));
+            writer.line(format!("transfer 0 1 0 {first:04x}{last:04x}"));
+        }
+        if random.one_in(2) {
+            writer.line("transfer 0 0 0 36");
+            writer.line(format!("transfer 0 1 0 {:02x}", madctl(random)));
+        }
+        let run = random.pick(&["2c", "2c", "2c", "3c"]);
+        writer.line(format!("transfer {time} 0 0 {run}"));
+        for _ in 0..random.within(1, 4) {
+            let length = match random.below(6) {
+                0 => random.below(3),
+                1 => random.within(7, 10),
+                2 => random.within(470, 650),
+                3 => random.below(5_000),
+                _ => random.below(200),
+            };
+            let name = random.pick(&["totals", "totals", "totals", "transfer", "bare"]);
+            let release = u8::from(random.one_in(9));
+            let bytes = format!("{:02x}*{length}", random.byte());
+            writer.line(format!("{name} {time} 1 {release} {bytes}"));
+        }
+        match random.below(40) {
+            0 => writer.line(format!("reset {}", random.pick(&DOMAINS))),
+            1 => writer.line("transfer 0 0 0 01"),
+            2 => writer.line("dump"),
+            3 | 4 => {
+                let count = random.pick(&["lost_inverted", "lost_unmapped"]);
+                writer.line(format!("set {count} {}", random.pick(&HIGH)));
+                writer.line(format!("totals {time} 1 0 f8*{}", random.below(200)));
+                writer.line(format!("totals {time} 1 0 f800"));
+                writer.line("dump");
+                writer.line(format!("set {count} 0"));
+            }
+            5 => writer.any_call(random),
+            6 => writer.line(format!("fresh {}", random.below(2))),
+            _ => {}
+        }
+    }
+    writer.text(random)
+}
+
+/// Counts with which a transfer passes, and one with which it doesn't.
+const HIGH: [u64; 4] = [(1 << 63) - 70_000, (1 << 63) - 1, 1 << 63, (1 << 63) + 1];
+
+/// Two corners of a window: in order, the other way round, or past where the panel ends.
+fn corners_of(random: &mut Random) -> (u64, u64) {
+    let (a, b) = (random.below(320), random.below(320));
+    match random.below(5) {
+        0 => (a.max(b), a.min(b)),
+        1 => (random.within(200, 260), 319),
+        2 => (0, 319),
+        3 => (a, a),
+        _ => (a.min(b), a.max(b)),
+    }
 }
 
 /// The first and the last row of a span: one row, all, from the top, to the bottom, or any.

@@ -22,6 +22,16 @@ const COUNTS: [u64; 7] = [
     u64::MAX,
 ];
 
+/// What is counted of the whole panel.
+const TALLIES: [&str; 6] = [
+    "commands",
+    "ramwrs",
+    "pixels",
+    "dropped",
+    "lost_inverted",
+    "lost_unmapped",
+];
+
 /// Coordinates at and around the limits.
 const EDGES: [u64; 8] = [0, 1, 239, 240, 318, 319, 320, 65_535];
 
@@ -38,7 +48,7 @@ pub const DOMAINS: [&str; 7] = [
 const VIEWS: [&str; 3] = ["raw", "glass", "perceived"];
 
 /// Lines that make no sense.
-const BAD_LINES: [&str; 60] = [
+const BAD_LINES: [&str; 67] = [
     "transfer",
     "transfer 0 0 0",
     "transfer 0 0 0 2c 00",
@@ -94,6 +104,13 @@ const BAD_LINES: [&str; 60] = [
     "set warnings 0 2c 0",
     "set warnings 5 2c 0",
     "set strict 2",
+    "totals",
+    "totals 0 1 0",
+    "totals 0 1 0 f800 00",
+    "totals 0 1 2 f800",
+    "set lost 1",
+    "set lost_inverted none",
+    "set lost_unmapped 18446744073709551616",
     "set swreset",
     "set current 256",
     "set params 00*256",
@@ -188,10 +205,10 @@ impl Writer {
     }
 
     fn transfer(&mut self, random: &mut Random, segment: &Segment) {
-        let name = if random.one_in(12) {
-            "bare"
-        } else {
-            "transfer"
+        let name = match random.below(12) {
+            0 => "bare",
+            1..=4 => "totals",
+            _ => "transfer",
         };
         self.line(format!(
             "{name} {} {} {} {}",
@@ -353,7 +370,7 @@ impl Writer {
     /// Each kind of call once or more, so that every test of the state it makes is seen.
     fn probes(&mut self, random: &mut Random) {
         for _ in 0..random.within(2, 6) {
-            match random.below(16) {
+            match random.below(18) {
                 0 => self.line("transfer 7 0 0 2c"),
                 1 => self.line("transfer 7 1 0 f80007"),
                 2 => self.line("transfer 7 1 0 -"),
@@ -369,6 +386,8 @@ impl Writer {
                 12 => self.line(format!("reset {}", random.pick(&DOMAINS))),
                 13 => self.line("transfer 7 1 0 00*65537"),
                 14 => self.line("bare 7 1 0 00*65537"),
+                15 => self.line("totals 7 1 0 f80007e000"),
+                16 => self.line(random.pick(&["totals 7 1 0 00*65537", "totals 7 0 0 2c"])),
                 _ => self.any_call(random),
             }
         }
@@ -477,7 +496,7 @@ impl Writer {
 
     /// A count at or below 2^63, used once, then small again: the next transfer may be refused.
     fn count_within(&mut self, random: &mut Random) {
-        let count = random.pick(&["commands", "ramwrs", "pixels", "dropped"]);
+        let count = random.pick(&TALLIES);
         self.line(format!("set {count} {}", random.pick(&COUNTS[..4])));
         let bytes = random.pick(&["2c", "2c2c", "00", "b2"]);
         self.line(format!("transfer 3 0 0 {bytes}"));
@@ -579,7 +598,7 @@ impl Writer {
                 "set dirty none".to_string(),
             ),
             6 | 7 => {
-                let count = random.pick(&["commands", "ramwrs", "pixels", "dropped"]);
+                let count = random.pick(&TALLIES);
                 (
                     format!("set {count} {}", random.pick(&COUNTS[2..])),
                     format!("set {count} 3"),

@@ -141,29 +141,12 @@ pub fn hidden(panel: &St7789p3) -> Hidden<'_> {
     }
 }
 
-/// What becomes of the next pixels of a run.
-#[derive(Copy, Clone, Default)]
-pub struct Fates {
-    pub stored: u64,
-    pub inverted: u64,
-    pub unmapped: u64,
+/// Whether the pixel at the pointer has a cell, by the Rust's own `map`.
+pub fn is_mapped(panel: &St7789p3) -> bool {
+    panel.map(panel.x, panel.y).is_some()
 }
 
-/// The fates of the next `pixels` pixels, by the Rust's own `map` and `advance`; the panel stays as it is.
-pub fn fates(panel: &mut St7789p3, pixels: u64) -> Fates {
-    let mut fates = Fates::default();
-    if panel.xs > panel.xe || panel.ys > panel.ye {
-        fates.inverted = pixels;
-        return fates;
-    }
-    let pointer = (panel.x, panel.y);
-    for _ in 0..pixels {
-        match panel.map(panel.x, panel.y) {
-            Some(_) => fates.stored += 1,
-            None => fates.unmapped += 1,
-        }
-        panel.advance();
-    }
-    (panel.x, panel.y) = pointer;
-    fates
+/// The pointer moves, by the Rust's own `advance`.
+pub fn advance(panel: &mut St7789p3) {
+    panel.advance();
 }

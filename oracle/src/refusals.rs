@@ -2,6 +2,7 @@
 
 use crate::st7789::reach::hidden;
 use crate::st7789::{MAX_PARAMS, PANEL_HEIGHT, PANEL_PIXELS, St7789p3, TRACE_LIMIT};
+use crate::totals::Lost;
 
 pub const BAD_STATE: u8 = 1;
 pub const BAD_MEMORY: u8 = 2;
@@ -35,18 +36,18 @@ impl Lent {
 }
 
 /// What a transfer with memory refuses: 1, 2, 4, 5.
-pub fn transfer(panel: &St7789p3, lent: Lent, length: usize) -> Result<(), u8> {
+pub fn transfer(panel: &St7789p3, lost: &Lost, lent: Lent, length: usize) -> Result<(), u8> {
     state(panel)?;
     memory(lent)?;
     segment(length)?;
-    counts(panel)
+    counts(panel, lost)
 }
 
 /// What a transfer without memory refuses: 1, 4, 5.
-pub fn bare(panel: &St7789p3, length: usize) -> Result<(), u8> {
+pub fn bare(panel: &St7789p3, lost: &Lost, length: usize) -> Result<(), u8> {
     state(panel)?;
     segment(length)?;
-    counts(panel)
+    counts(panel, lost)
 }
 
 /// What publishing refuses: 1, 2, 3.
@@ -75,18 +76,21 @@ fn segment(length: usize) -> Result<(), u8> {
     test(length > SEGMENT_LIMIT, TOO_LONG)
 }
 
-fn counts(panel: &St7789p3) -> Result<(), u8> {
-    test(!high_counts(panel).is_empty(), COUNT_HIGH)
+fn counts(panel: &St7789p3, lost: &Lost) -> Result<(), u8> {
+    test(!high_counts(panel, lost).is_empty(), COUNT_HIGH)
 }
 
-/// The counts above 2^63, by name.
-pub fn high_counts(panel: &St7789p3) -> Vec<&'static str> {
+/// The counts above 2^63, by name. Q-3: "COUNT_HIGH also looks at both."
+pub fn high_counts(panel: &St7789p3, lost: &Lost) -> Vec<&'static str> {
     let current = hidden(panel).trace_cur.and_then(|at| panel.trace().get(at));
+    let [inverted, unmapped] = lost.high(COUNT_LIMIT);
     named(&[
         ("commands", panel.commands() > COUNT_LIMIT),
         ("ramwrs", panel.ramwr_count() > COUNT_LIMIT),
         ("pixels", panel.pixels_written() > COUNT_LIMIT),
         ("dropped", panel.dropped_param_bytes() > COUNT_LIMIT),
+        inverted,
+        unmapped,
         (
             "pixel bytes",
             current.is_some_and(|record| record.pixel_bytes > COUNT_LIMIT),

@@ -9,6 +9,7 @@ use crate::profile::Profile;
 use crate::st7789::reach::{fields, hidden};
 use crate::st7789::{FrameView, MAX_PARAMS, PANEL_WIDTH, St7789p3, TRACE_LIMIT};
 use crate::st7789::{TimingLint, TimingWarning, TraceEntry};
+use crate::totals::Lost;
 
 pub const VIEWS: [(&str, FrameView); 3] = [
     ("raw", FrameView::Raw),
@@ -84,7 +85,7 @@ pub fn at_most_full<T>(panel: &mut St7789p3, look: impl FnOnce(&St7789p3) -> T) 
 }
 
 /// The whole dump, with the digest of the frame's numbers.
-pub fn dump(panel: &mut St7789p3, profile: &Profile, frame: &[u16], out: &mut String) {
+pub fn dump(panel: &mut St7789p3, profile: &Profile, lost: &Lost, frame: &[u16], out: &mut String) {
     replay_lines(panel, profile, out);
     let inner = hidden(panel);
     line(
@@ -119,6 +120,10 @@ pub fn dump(panel: &mut St7789p3, profile: &Profile, frame: &[u16], out: &mut St
             number_or_none(profile.swreset),
             number_or_none(inner.trace_cur.map(|at| at as u64)),
         ),
+    );
+    line(
+        out,
+        format_args!("lost {} {}", lost.inverted, lost.unmapped),
     );
     for (c, bytes) in inner.stored {
         line(out, format_args!("s {c:02x}{}", list(bytes)));

@@ -14,6 +14,7 @@ use crate::report::{self, RULES, UNGUARDED, VIEWS, at_most_full, bit, digest, li
 use crate::st7789::reach::fields;
 use crate::st7789::{FrameView, PANEL_HEIGHT, PANEL_PIXELS, PANEL_WIDTH, PanelConfig, St7789p3};
 use crate::st7789::{STORED_COMMANDS, TimingWarning, TraceEntry};
+use crate::totals::{Lost, Totals};
 use crate::traits::{BoardDomain, Chip};
 
 /// The longest BYTES of a transfer: one more than the longest segment.
@@ -25,11 +26,12 @@ const LEND_LIMIT: u64 = PANEL_PIXELS as u64 + 1;
 /// The highest count of a list that `set` makes.
 const COUNT_LIMIT: usize = 255;
 
-/// The panel with its memory inside, what Q-14 adds to it, the frame, the lengths with which buffers
-/// are lent, and what was seen of the calls, where that is asked for.
+/// The panel with its memory inside, what add to it, the frame, the lengths with which
+/// buffers are lent, and what was seen of the calls, where that is asked for.
 struct Bench<'a> {
     panel: St7789p3,
     profile: Profile,
+    lost: Lost,
     port: FramePort,
     lent: Lent,
     seen: Option<&'a mut Coverage>,
@@ -52,6 +54,7 @@ pub fn run_seen(script: &[u8], seen: Option<&mut Coverage>) -> String {
     let mut bench = Bench {
         panel: fresh(true),
         profile: Profile::new(false),
+        lost: Lost::default(),
         port: FramePort::zeros(PANEL_PIXELS),
         lent: Lent::FULL,
         seen,
@@ -71,6 +74,7 @@ pub fn run_seen(script: &[u8], seen: Option<&mut Coverage>) -> String {
     report::dump(
         &mut bench.panel,
         &bench.profile,
+        &bench.lost,
         &bench.port.pixels,
         &mut out,
     );
@@ -98,7 +102,7 @@ impl Bench<'_> {
         let Some(seen) = &mut self.seen else {
             return self.call(words, out);
         };
-        seen.before(&self.panel, words);
+        seen.before(&self.panel, &self.lost, words);
         let start = out.len();
         let done = self.call(words, out);
         if let Some(seen) = &mut self.seen {
@@ -107,13 +111,21 @@ impl Bench<'_> {
         done
     }
 
-    /// The Rust's transfer, under the panel's profile.
-    fn transfer(&mut self, time: u64, dc: bool, bytes: &[u8], release: bool) {
+    /// The Rust's transfer, under the panel's profile, and its totals.
+    fn transfer(&mut self, time: u64, dc: bool, bytes: &[u8], release: bool) -> Totals {
+        let totals = Totals::of(&mut self.panel, dc, bytes);
+        self.lost.add(totals);
         let (panel, profile) = (&mut self.panel, &mut self.profile);
         match &mut self.seen {
             None => profile.transfer(panel, time, dc, bytes, release),
             Some(seen) => seen.transfer(panel, profile, time, dc, bytes, release),
         }
+        totals
+    }
+
+    /// The table's tests of a transfer with memory.
+    fn tested(&self, length: usize) -> Result<(), u8> {
+        refusals::transfer(&self.panel, &self.lost, self.lent, length)
     }
 
     /// Runs one line; `None` when it makes no sense.
@@ -122,15 +134,27 @@ impl Bench<'_> {
             [b"transfer", time, dc, cs, bytes] => {
                 let (time, dc, cs) = (long(time)?, flag(dc)?, flag(cs)?);
                 let bytes = byte_list(bytes, BYTES_LIMIT)?;
-                let tested = refusals::transfer(&self.panel, self.lent, bytes.len());
+                let tested = self.tested(bytes.len());
                 if accepted(tested, out) {
                     self.transfer(time, dc, &bytes, cs);
+                }
+            }
+            [b"totals", time, dc, cs, bytes] => {
+                let (time, dc, cs) = (long(time)?, flag(dc)?, flag(cs)?);
+                let bytes = byte_list(bytes, BYTES_LIMIT)?;
+                let tested = self.tested(bytes.len());
+                if accepted(tested, out) {
+                    let t = self.transfer(time, dc, &bytes, cs);
+                    line(
+                        out,
+                        format_args!("totals {} {} {}", t.stored, t.inverted, t.unmapped),
+                    );
                 }
             }
             [b"bare", time, dc, cs, bytes] => {
                 let (time, dc, cs) = (long(time)?, flag(dc)?, flag(cs)?);
                 let bytes = byte_list(bytes, BYTES_LIMIT)?;
-                let tested = refusals::bare(&self.panel, bytes.len());
+                let tested = refusals::bare(&self.panel, &self.lost, bytes.len());
                 if accepted(tested, out) {
                     // The Rust has no such call: it writes to a copy of its memory, which is dropped.
                     let memory = fields(&mut self.panel).ram.clone();
@@ -162,6 +186,7 @@ impl Bench<'_> {
                     if domain == BoardDomain::BoardRail {
                         fresh_scale(&mut self.panel);
                         self.profile.board_rail();
+                        self.lost.board_rail();
                     }
                 }
             }
@@ -178,6 +203,7 @@ impl Bench<'_> {
                 }
                 self.panel = panel;
                 self.profile = Profile::new(strict);
+                self.lost = Lost::default();
             }
             [b"publish"] => {
                 if accepted(refusals::publish(&self.panel, self.lent), out) {
@@ -229,12 +255,15 @@ impl Bench<'_> {
             [b"lend", b"frame", length] => self.lent.frame = lendable(length)?,
             [b"lend", b"view", length] => self.lent.view = lendable(length)?,
             [b"dump"] => {
-                report::dump(&mut self.panel, &self.profile, &self.port.pixels, out);
+                let frame = &self.port.pixels;
+                report::dump(&mut self.panel, &self.profile, &self.lost, frame, out);
             }
             [b"set", b"frame", pixel] => self.port.pixels.fill(hex(pixel, 4)?),
             [b"set", b"strict", on] => self.profile.strict = flag(on)?,
             [b"set", b"swreset", b"none"] => self.profile.swreset = None,
             [b"set", b"swreset", time] => self.profile.swreset = Some(long(time)?),
+            [b"set", b"lost_inverted", n] => self.lost.inverted = long(n)?,
+            [b"set", b"lost_unmapped", n] => self.lost.unmapped = long(n)?,
             [b"set", b"warnings", values @ ..] => self.set_warnings(values)?,
             [b"set", field, values @ ..] => set(&mut self.panel, field, values)?,
             _ => return None,

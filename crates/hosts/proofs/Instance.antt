@@ -7,7 +7,7 @@ use lib.Dec.{eqb}
 use Rattle.geometry.specs.Place.{mapOf, outcome, next}
 use Rattle.marks.specs.Rows.{noRows, allRows, mark, spanOf, marksBad}
 use Rattle.pixels.specs.Bytes.{arrival}
-use Rattle.pixels.specs.Run.{stores, walkAfter, pixelsCounted}
+use Rattle.pixels.specs.Run.{stores, walkAfter, pixelsCounted, totalsOf}
 use Rattle.codes.specs.Codes.{kindOf, needOf}
 use Rattle.lists.proofs.Bools.{both}
 use Rattle.lists.specs.Params.{filled, differ}
@@ -51,7 +51,7 @@ passed h (c ∷ calls) e =
 
 -- One name that opens every definition, for what is computed.
 unfoldable opened : Bool
-unfolding kindOf needOf mapOf outcome next noRows allRows mark spanOf marksBad arrival stores walkAfter pixelsCounted filled differ brokenBy timesAfter freshChip chipBegun chipReleased appliedIfDue chipTaken begun controllerReleased ran taken dataIn badState transferRefusal freshController emptyLists moved transferred transferMemory resetState resetMemory publishRefusal published publishedFrame refusal step
+unfolding kindOf needOf mapOf outcome next noRows allRows mark spanOf marksBad arrival stores walkAfter pixelsCounted totalsOf filled differ brokenBy timesAfter freshChip chipBegun chipReleased appliedIfDue chipTaken begun controllerReleased ran taken dataIn badState transferRefusal freshController emptyLists moved transferred transferMemory resetState resetMemory publishRefusal published publishedFrame refusal step
 opened = true
 
 -- Both panels have the switch on.

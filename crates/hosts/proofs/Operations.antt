@@ -49,6 +49,8 @@ counted-bounded e f w =
       ramwrs = rw e (w .ramwrs);
       pixels = rw e (w .pixels);
       dropped = rw e (w .dropped);
+      inverted = rw e (w .inverted);
+      unmapped = rw e (w .unmapped);
       held = λ i. rw f (w .held i);
     }
 
@@ -66,6 +68,8 @@ fresh-bounded cfg =
       ramwrs = omega arith;
       pixels = omega arith;
       dropped = omega arith;
+      inverted = omega arith;
+      unmapped = omega arith;
       held = λ i. omega (arith, none-held places i);
     }
 

@@ -26,7 +26,7 @@ use Rattle.laws.specs.Valid.{Good}
 use Rattle.laws.specs.Profiles.{unwarned, ofThree, ProfilesAgree}
 use Rattle.laws.proofs.Marks.{unmarked}
 use Rattle.laws.proofs.Plain.{transferred-before}
-use Rattle.laws.proofs.Profiles.{Beside, Leaves, left-beside, refusal-beside, transferred-beside, lent-beside, transferred-profile}
+use Rattle.laws.proofs.Profiles.{Beside, Leaves, left-beside, refusal-beside, transferred-beside, lent-beside, totals-beside, transferred-profile}
 use Rattle.laws.proofs.Reach.{fresh-good, unmarked-good, marked-good, taken-warnings-good, rail-good}
 use Rattle.views.specs.Views.{lightOf, pixelSeen, frameSeen}
 use Rattle.publishing.specs.Publish.{publishRefusal, published, publishedSpan, publishedFlags, publishedFrame, spanCopied, flagsOf, noFlags}
@@ -51,6 +51,7 @@ module _ (p s : St7789p3) (w : Beside p s) where
         bad = neither-bad;
         transfer = refusal-beside p s w;
         lent = lent-beside p s w;
+        totals = totals-beside p s w;
         publish = publish-refusal;
         frame = λ n memory frame. ap (λ (r : St7789p3). unlessRefused n (spanCopied (spanOf (r .controller .marks)) memory frame) frame) (w .agree .rest);
         span = λ n. ap (λ (r : St7789p3). unlessRefused n (spanOf (r .controller .marks)) Nothing) (w .agree .rest);

@@ -32,6 +32,7 @@ use Rattle.st7789.specs.declared.Controller.{Controller}
 use Rattle.st7789.specs.declared.St7789p3.{St7789p3}
 use Rattle.st7789.proofs.Tests.{clause}
 use Rattle.laws.specs.Valid.{Good}
+use Rattle.laws.proofs.Answers.{begun-others}
 use Rattle.laws.proofs.DataKinds.{dataBy}
 use Rattle.laws.proofs.Marks.{unmarked}
 use Rattle.laws.proofs.Reach.{fresh-good}
@@ -46,9 +47,11 @@ use Rattle.hosts.proofs.Operations.{operated-good, run-operates}
 
 -- A tally by its parts.
 tally-same :
-    {a b c d a′ b′ c′ d′ : ℕ} {l l′ : List ℕ} → a ≡ a′ → b ≡ b′ → c ≡ c′ → d ≡ d′ → l ≡ l′ →
-    _≡_ {A = Tally} (record { commands = a; ramwrs = b; pixels = c; dropped = d; held = l }) (record { commands = a′; ramwrs = b′; pixels = c′; dropped = d′; held = l′ })
-tally-same p q r s t i = record { commands = p i; ramwrs = q i; pixels = r i; dropped = s i; held = t i }
+    {a b c d e f a′ b′ c′ d′ e′ f′ : ℕ} {l l′ : List ℕ} → a ≡ a′ → b ≡ b′ → c ≡ c′ → d ≡ d′ → e ≡ e′ → f ≡ f′ → l ≡ l′ →
+    _≡_ {A = Tally}
+    (record { commands = a; ramwrs = b; pixels = c; dropped = d; inverted = e; unmapped = f; held = l })
+    (record { commands = a′; ramwrs = b′; pixels = c′; dropped = d′; inverted = e′; unmapped = f′; held = l′ })
+tally-same p q r s t u v i = record { commands = p i; ramwrs = q i; pixels = r i; dropped = s i; inverted = t i; unmapped = u i; held = v i }
 
 abbrev bytesOf : TraceRecord → ℕ
 bytesOf r = r .«pixel_bytes»
@@ -99,17 +102,10 @@ all-ramwrs t (c ∷ bytes) s =
     go true n k = omega arith
     go false n k = omega arith
 
-all-others : (t : ℕ) (bytes : List ℕ) (s : St7789p3) →
-    (begunAll t bytes s .controller .counts .«pixels_written» ≡ s .controller .counts .«pixels_written»)
-    × (begunAll t bytes s .controller .counts .«dropped_params» ≡ s .controller .counts .«dropped_params»)
-unfolding begun
-all-others t [] s = (refl, refl)
-all-others t (c ∷ bytes) s = all-others t bytes (begun c t s)
-
 all-tallied : (t : ℕ) (bytes : List ℕ) (s : St7789p3) → Good s → countsIn (begunAll t bytes s) ≡ commandsSent bytes (countsIn s)
 all-tallied t bytes s g =
-    let o = all-others t bytes s in
-    tally-same (all-commands t bytes s) (all-ramwrs t bytes s) (o .0) (o .1) (all-held t bytes s g)
+    let o = begun-others t bytes s in
+    tally-same (all-commands t bytes s) (all-ramwrs t bytes s) (o .0) (o .1 .0) (o .1 .1 .0) (o .1 .1 .1) (all-held t bytes s g)
 
 -- Data: the current record's pixel bytes grow, or it keeps them.
 held-grown :
@@ -153,15 +149,17 @@ data-tallied bytes s g = go (s .controller .chip .decoder .«in_pixels») (s .co
           ramwrs = k .counts .«ramwr_count»;
           pixels = k .counts .«pixels_written»;
           dropped = k .counts .«dropped_params» + restOf f (k .chip .decoder .params) bytes;
+          inverted = k .counts .inverted;
+          unmapped = k .counts .unmapped;
           held = countsIn s .held;
         }
 
     go : (run : Bool) (f : InForce) → countsIn (dataBy run f bytes s) ≡ cond run (pixelsSent bytes k (countsIn s)) (listed f)
     go true f =
-        tally-same refl refl (omega arith) refl
+        tally-same refl refl refl refl refl refl
         (held-grown (morePixels (length bytes)) (length bytes) (λ r. refl) (k .logs .current) (traceOf s) (k .chip .decoder .params) (lined s g))
-    go false InForce.Nothing = tally-same refl refl refl (omega arith) (held-kept (λ r. r) (λ r. refl) (k .logs .current) (k .logs .traced) (s .records))
-    go false (Code c) = tally-same refl refl refl refl (held-kept (moreParams bytes) (λ r. refl) (k .logs .current) (k .logs .traced) (s .records))
+    go false InForce.Nothing = tally-same refl refl refl (omega arith) refl refl (held-kept (λ r. r) (λ r. refl) (k .logs .current) (k .logs .traced) (s .records))
+    go false (Code c) = tally-same refl refl refl refl refl refl (held-kept (moreParams bytes) (λ r. refl) (k .logs .current) (k .logs .traced) (s .records))
 
 -- A whole segment; the CS release counts nothing.
 moved-tallied :

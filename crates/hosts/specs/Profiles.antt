@@ -9,7 +9,7 @@ use Rattle.light.specs.declared.FrameView.{FrameView}
 use Rattle.lists.specs.Fixed.{used}
 use Rattle.st7789.specs.Parts.{traceOf}
 use Rattle.st7789.specs.Refusals.{badState}
-use Rattle.st7789.specs.Entries.{refusalWith, memoryWith}
+use Rattle.st7789.specs.Entries.{refusalWith, totalsWith, memoryWith}
 use Rattle.st7789.specs.declared.PanelMemory.{PanelMemory}
 use Rattle.st7789.specs.declared.St7789p3.{St7789p3}
 use Rattle.views.specs.Views.{pixelSeen, frameSeen}
@@ -34,12 +34,14 @@ operatedBefore s (setting x) = operated s (setting x)
 operatedBefore s marking = operated s marking
 operatedBefore s taking = operated s taking
 
--- Every answer of two panels is equal but their warnings, and every lent number: the test for a bad state, a transfer, a publish by the
--- number of its refusal, the views, and the trace that the boot comparison reads. The refusals that are not here look at no panel.
+-- Every answer of two panels is equal but their warnings, and every lent number: the test for a bad state, a transfer with its totals, a
+-- publish by the number of its refusal, the views, and the trace that the boot comparison reads. The refusals that are not here look at no
+-- panel.
 pub record AnswersAlike (p s : St7789p3) : Type 0 where
   pub bad : badState p ≡ badState s
   pub transfer : (memory : PanelMemory) (cells n : ℕ) → refusalWith memory p cells n ≡ refusalWith memory s cells n
   pub lent : (memory : PanelMemory) (dc : Bool) (bytes cells : List ℕ) → memoryWith memory dc bytes cells p ≡ memoryWith memory dc bytes cells s
+  pub totals : (memory : PanelMemory) (dc : Bool) (bytes : List ℕ) (cells : ℕ) → totalsWith memory dc bytes cells p ≡ totalsWith memory dc bytes cells s
   pub publish : (cells room : ℕ) → publishRefusal p cells room ≡ publishRefusal s cells room
   pub frame : (n : ℕ) (memory frame : List ℕ) → publishedFrame n p memory frame ≡ publishedFrame n s memory frame
   pub span : (n : ℕ) → publishedSpan n p ≡ publishedSpan n s

@@ -6,7 +6,6 @@ use lib.Dec.{eqb}
 use lib.ListN.{length, take, set, getD, replicate}
 use Rattle.status.specs.Numbers.{unlessRefused}
 use Rattle.status.specs.Tests.{memoryRefusal}
-use Rattle.pixels.specs.Run.{pixelsCounted}
 use Rattle.lists.specs.Fixed.{places, used}
 use Rattle.lists.specs.Params.{excess}
 use Rattle.lists.specs.declared.Params.{Params}
@@ -14,7 +13,7 @@ use Rattle.lists.specs.declared.Current.{Current}
 use Rattle.lists.specs.declared.Current.the-variants.{Nothing, At}
 use Rattle.board.specs.Board.{isBoardRail}
 use Rattle.board.specs.declared.PanelConfig.{PanelConfig}
-use Rattle.chip.specs.Site.{siteOf}
+use Rattle.chip.specs.Site.{chipCounted, chipTotals}
 use Rattle.chip.specs.declared.InForce.{InForce}
 use Rattle.chip.specs.declared.InForce.the-variants.{Code}
 use Rattle.st7789.specs.Parts.{traceOf}
@@ -23,17 +22,19 @@ use Rattle.st7789.specs.declared.Controller.{Controller}
 use Rattle.st7789.specs.declared.St7789p3.{St7789p3}
 use Rattle.hosts.specs.Operations.{Operation, transferring, publishing, resetting, setting, marking, taking, operated}
 
--- Commands, RAMWRs, pixels, dropped parameters, and the pixel bytes of each used record.
+-- Commands, RAMWRs, pixels, dropped parameters, inverted and unmapped pixels, and the pixel bytes of each used record.
 pub record Tally : Type 0 where
   pub commands : ℕ
   pub ramwrs : ℕ
   pub pixels : ℕ
   pub dropped : ℕ
+  pub inverted : ℕ
+  pub unmapped : ℕ
   pub held : List ℕ
 
 -- Nothing sent.
 abbrev pub nothingSent : Tally
-nothingSent = record { commands = 0; ramwrs = 0; pixels = 0; dropped = 0; held = [] }
+nothingSent = record { commands = 0; ramwrs = 0; pixels = 0; dropped = 0; inverted = 0; unmapped = 0; held = [] }
 
 -- How many of the bytes are this one.
 abbrev pub timesSent : ℕ → List ℕ → ℕ
@@ -49,6 +50,8 @@ commandsSent bytes y =
       ramwrs = y .ramwrs + timesSent 0x2C bytes;
       pixels = y .pixels;
       dropped = y .dropped;
+      inverted = y .inverted;
+      unmapped = y .unmapped;
       held = take places (y .held ++ replicate (length bytes) 0);
     }
 
@@ -57,14 +60,17 @@ abbrev pub grownAt : Current → ℕ → List ℕ → List ℕ
 grownAt Nothing n held = held
 grownAt (At i) n held = set held i (getD held i 0 + n)
 
--- "Data in a run": the pixels that its bytes complete, unless the window is inverted, and the record that is current.
+-- "Data in a run": the pixels that its bytes complete, unless the window is inverted, and the record that is current; 02, Q-3: those
+-- that vanish, by their outcome.
 abbrev pub pixelsSent : List ℕ → Controller → Tally → Tally
 pixelsSent bytes k y =
     record {
       commands = y .commands;
       ramwrs = y .ramwrs;
-      pixels = y .pixels + pixelsCounted (siteOf (k .chip)) (k .chip .walk) bytes;
+      pixels = y .pixels + chipCounted (k .chip) bytes;
       dropped = y .dropped;
+      inverted = y .inverted + chipTotals (k .chip) bytes .inverted;
+      unmapped = y .unmapped + chipTotals (k .chip) bytes .unmapped;
       held = grownAt (k .logs .current) (length bytes) (y .held);
     }
 
@@ -81,6 +87,8 @@ paramsSent bytes k y =
       ramwrs = y .ramwrs;
       pixels = y .pixels;
       dropped = y .dropped + restOf (k .chip .decoder .cmd) (k .chip .decoder .params) bytes;
+      inverted = y .inverted;
+      unmapped = y .unmapped;
       held = y .held;
     }
 
@@ -116,5 +124,7 @@ countsIn s =
       ramwrs = s .controller .counts .«ramwr_count»;
       pixels = s .controller .counts .«pixels_written»;
       dropped = s .controller .counts .«dropped_params»;
+      inverted = s .controller .counts .inverted;
+      unmapped = s .controller .counts .unmapped;
       held = map (λ r. r .«pixel_bytes») (used (traceOf s));
     }

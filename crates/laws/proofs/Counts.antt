@@ -11,6 +11,7 @@ use lib.ListN.{length, set, getD}
 use lib.Seq.{set-out, getD-set-same, getD-set-other}
 use Rattle.chip.specs.Site.{siteOf}
 use Rattle.pixels.proofs.Laws.{counted-few}
+use Rattle.pixels.proofs.Sums.{totals-few}
 use Rattle.codes.specs.Codes.{kindOf, is}
 use Rattle.codes.specs.declared.Kind.the-variants.{Ramwr}
 use Rattle.lists.specs.Fixed.{places}
@@ -36,6 +37,8 @@ pub record Grown (n : ℕ) (s r : St7789p3) : Type 0 where
   pub ramwrs : r .controller .counts .«ramwr_count» ≤ s .controller .counts .«ramwr_count» + n
   pub pixels : r .controller .counts .«pixels_written» ≤ s .controller .counts .«pixels_written» + n
   pub dropped : r .controller .counts .«dropped_params» ≤ s .controller .counts .«dropped_params» + n
+  pub inverted : r .controller .counts .inverted ≤ s .controller .counts .inverted + n
+  pub unmapped : r .controller .counts .unmapped ≤ s .controller .counts .unmapped + n
   pub held : heldBy r ≤ heldBy s + n
   pub each : (i : ℕ) → heldAt i r ≤ max (heldAt i s) (heldBy s + n)
 
@@ -72,6 +75,8 @@ begun-grown c t s g =
       ramwrs = one-more (is (kindOf c) Ramwr) (s .controller .counts .«ramwr_count»);
       pixels = omega arith;
       dropped = omega arith;
+      inverted = omega arith;
+      unmapped = omega arith;
       held = omega (arith, h);
       each = λ i. begun-each i (ltb (s .controller .logs .traced) places);
     }
@@ -86,7 +91,16 @@ begun-grown c t s g =
 
 pub all-grown : (t : ℕ) (bytes : List ℕ) (s : St7789p3) → Good s → Grown (length bytes) s (begunAll t bytes s)
 all-grown t [] s g =
-    record { commands = omega arith; ramwrs = omega arith; pixels = omega arith; dropped = omega arith; held = omega arith; each = λ i. omega arith }
+    record {
+      commands = omega arith;
+      ramwrs = omega arith;
+      pixels = omega arith;
+      dropped = omega arith;
+      inverted = omega arith;
+      unmapped = omega arith;
+      held = omega arith;
+      each = λ i. omega arith;
+    }
 all-grown t (c ∷ bytes) s g =
     let one = begun-grown c t s g in
     let rest = all-grown t bytes (begun c t s) (begun-good c t s g) in
@@ -95,6 +109,8 @@ all-grown t (c ∷ bytes) s g =
       ramwrs = omega (arith, one .ramwrs, rest .ramwrs);
       pixels = omega (arith, one .pixels, rest .pixels);
       dropped = omega (arith, one .dropped, rest .dropped);
+      inverted = omega (arith, one .inverted, rest .inverted);
+      unmapped = omega (arith, one .unmapped, rest .unmapped);
       held = omega (arith, one .held, rest .held);
       each = λ i. omega (arith, one .each i, rest .each i, one .held);
     }
@@ -126,6 +142,8 @@ data-grown bytes s g =
       ramwrs = omega arith;
       pixels = omega (arith, counted-few (siteOf (s .controller .chip)) (s .controller .chip .walk) bytes);
       dropped = omega arith;
+      inverted = omega (arith, totals-few (siteOf (s .controller .chip)) (s .controller .chip .walk) bytes);
+      unmapped = omega (arith, totals-few (siteOf (s .controller .chip)) (s .controller .chip .walk) bytes);
       held = held (morePixels (length bytes)) (λ r. omega arith);
       each = each (morePixels (length bytes)) (λ r. omega arith);
     })
@@ -134,6 +152,8 @@ data-grown bytes s g =
       ramwrs = omega arith;
       pixels = omega arith;
       dropped = omega arith;
+      inverted = omega arith;
+      unmapped = omega arith;
       held = held (λ r. r) (λ r. omega arith);
       each = each (λ r. r) (λ r. omega arith);
     })
@@ -143,6 +163,8 @@ data-grown bytes s g =
       ramwrs = omega arith;
       pixels = omega arith;
       dropped = omega arith;
+      inverted = omega arith;
+      unmapped = omega arith;
       held = held (moreParams bytes) (λ r. omega arith);
       each = each (moreParams bytes) (λ r. omega arith);
     })
@@ -163,7 +185,16 @@ data-grown bytes s g =
 released-grown : (n : ℕ) (s r : St7789p3) → Grown n s r → Grown n s (released r)
 unfolding controllerReleased
 released-grown n s r h =
-    record { commands = h .commands; ramwrs = h .ramwrs; pixels = h .pixels; dropped = h .dropped; held = omega arith; each = h .each }
+    record {
+      commands = h .commands;
+      ramwrs = h .ramwrs;
+      pixels = h .pixels;
+      dropped = h .dropped;
+      inverted = h .inverted;
+      unmapped = h .unmapped;
+      held = omega arith;
+      each = h .each;
+    }
 
 pub moved-grown : (t : ℕ) (dc : Bool) (bytes : List ℕ) (cs : Bool) (s : St7789p3) → Good s → Grown (length bytes) s (moved t dc bytes cs s)
 unfolding moved
@@ -193,7 +224,9 @@ never-over t dc bytes cs cells s g w e =
       ramwrs = omega (arith, h .ramwrs, low 1);
       pixels = omega (arith, h .pixels, low 2);
       dropped = omega (arith, h .dropped, low 3);
-      held = λ i. omega (arith, h .each i, low 4, w .held i);
+      inverted = omega (arith, h .inverted, low 4);
+      unmapped = omega (arith, h .unmapped, low 5);
+      held = λ i. omega (arith, h .each i, low 6, w .held i);
     }
 
 pub transferred-bounded :

@@ -7,21 +7,25 @@ use native.Mathlib.Nat.{add-assoc}
 use native.Mathlib.Omega.{arith}
 use lib.ListN.{length, set}
 use lib.Seq.{set-set}
-use Rattle.pixels.specs.Run.{walkedOn, unwalked}
+use Rattle.geometry.specs.declared.Site.{Site}
+use Rattle.pixels.specs.Run.{pixelsCounted, added, totals, walkedOn, unwalked}
+use Rattle.pixels.specs.declared.Totals.{Totals}
 use Rattle.pixels.specs.declared.Walked.{Walked}
-use Rattle.pixels.proofs.Laws.{walked-cut}
+use Rattle.pixels.proofs.Laws.{count-cut}
+use Rattle.pixels.proofs.Sums.{totals-cut, walked-cut}
 use Rattle.lists.specs.Params.{filled, excess}
 use Rattle.codes.specs.Codes.{kindOf, commandOf, isStored, placeOf}
 use Rattle.lists.specs.declared.Stored.{Stored}
 use Rattle.lists.proofs.Cuts.{filled-cut, excess-cut}
 use Rattle.chip.specs.Apply.{chipTaken}
-use Rattle.chip.specs.Site.{siteOf}
+use Rattle.chip.specs.Site.{siteOf, chipCounted, chipTotals}
 use Rattle.chip.specs.declared.Chip.{Chip}
 use Rattle.chip.specs.declared.InForce.{InForce}
 use Rattle.chip.specs.declared.InForce.the-variants.{Code}
 use Rattle.chip.proofs.Cuts.{chip-cut, taken-params, taken-cmd, taken-run}
 use Rattle.st7789.specs.Parts.{whole, withChip, withCounts}
-use Rattle.st7789.specs.Data.{walkOver, walkedChip, ran, taken, dataIn}
+use Rattle.st7789.specs.Data.{walkOver, walkedChip, pixelsAdded, ran, taken, dataIn}
+use Rattle.st7789.specs.declared.Counts.{Counts}
 use Rattle.st7789.specs.declared.Controller.{Controller}
 use Rattle.st7789.specs.declared.St7789p3.{St7789p3}
 use Rattle.st7789.proofs.Commands.{same-panel}
@@ -30,30 +34,33 @@ use Rattle.laws.proofs.Records.{current-twice, pixels-twice, params-twi
 
 -- The controller: data in a run, and data for a command.
 module _ (a b : List ℕ) (k : Controller) where
+  -- The parts' pixels, one part after the other.
+  added-twice :
+      (m n : ℕ) (t u : Totals) → pixelsAdded (m + n) (added t u) (k .counts) ≡ pixelsAdded n u (pixelsAdded m t (k .counts))
+  added-twice m n t u i =
+      record {
+        commands = k .counts .commands;
+        «ramwr_count» = k .counts .«ramwr_count»;
+        «pixels_written» = sym (add-assoc (k .counts .«pixels_written») m n) i;
+        «dropped_params» = k .counts .«dropped_params»;
+        inverted = sym (add-assoc (k .counts .inverted) (t .inverted) (u .inverted)) i;
+        unmapped = sym (add-assoc (k .counts .unmapped) (t .unmapped) (u .unmapped)) i;
+      }
+
   ran-cut : ran (a ++ b) k ≡ ran b (ran a k)
   unfolding ran
   ran-cut =
-      ap (λ w. by w (k .counts .«pixels_written» + w .pixels))
-      (walked-cut (siteOf (k .chip)) a b (unwalked (k .chip .walk) (k .marks)))
-      ∙ ap (by whole-walk) counted
+      ap (λ w. by w (pixelsAdded (chipCounted (k .chip) (a ++ b)) (chipTotals (k .chip) (a ++ b)) (k .counts)))
+      (walked-cut site a b (unwalked (k .chip .walk) (k .marks)))
+      ∙ ap (by (walkedOn site (walkOver k a) b))
+      (ap₂ (λ n t. pixelsAdded n t (k .counts)) (count-cut site a b (k .chip .walk)) (totals-cut site a b (k .chip .walk))
+      ∙ added-twice (chipCounted (k .chip) a) (pixelsCounted site (walkOver k a .walk) b) (chipTotals (k .chip) a) (totals site (walkOver k a .walk) b))
     where
-      -- The second part counts anew from 0.
-      whole-walk : Walked
-      whole-walk = walkedOn (siteOf (k .chip)) (walkOver k a) b
+      site : Site
+      site = siteOf (k .chip)
 
-      counted : k .counts .«pixels_written» + whole-walk .pixels ≡ k .counts .«pixels_written» + walkOver k a .pixels + walkOver (ran a k) b .pixels
-      counted = omega arith
-
-      by : Walked → ℕ → Controller
-      by w n =
-          whole (k .cfg) (k .power) (walkedChip (w .walk) (k .chip))
-          (record {
-            commands = k .counts .commands;
-            «ramwr_count» = k .counts .«ramwr_count»;
-            «pixels_written» = n;
-            «dropped_params» = k .counts .«dropped_params»;
-          })
-          (w .marks) (k .logs)
+      by : Walked → Counts → Controller
+      by w n = whole (k .cfg) (k .power) (walkedChip (w .walk) (k .chip)) n (w .marks) (k .logs)
 
   taken-cut : (c : ℕ) → taken c (a ++ b) k ≡ taken c b (taken c a k)
   unfolding taken chipTaken
@@ -74,6 +81,8 @@ module _ (a b : List ℕ) (k : Controller) where
             «ramwr_count» = k .counts .«ramwr_count»;
             «pixels_written» = k .counts .«pixels_written»;
             «dropped_params» = n;
+            inverted = k .counts .inverted;
+            unmapped = k .counts .unmapped;
           })
           (withChip chip k)
 

@@ -5,6 +5,7 @@ pub mod Stays
 pub mod Reach
 pub mod Bare
 pub mod Counts
+pub mod Answers
 pub mod Meaning
 pub mod Cases
 pub mod Records

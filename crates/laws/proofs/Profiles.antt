@@ -16,7 +16,7 @@ use Rattle.lists.specs.declared.Current.{Current}
 use Rattle.lists.proofs.Fixed.{count-all}
 use Rattle.timing.specs.Lint.{breaks1, breaks2, breaks3, breaks4, brokenBy, only}
 use Rattle.board.specs.Board.{strictSet}
-use Rattle.pixels.specs.Run.{written}
+use Rattle.pixels.specs.Run.{written, noTotals}
 use Rattle.chip.specs.declared.InForce.{InForce}
 use Rattle.chip.specs.declared.InForce.the-variants.{Code}
 use Rattle.status.specs.Numbers.{unlessRefused}
@@ -24,9 +24,9 @@ use Rattle.status.specs.Tests.{first, transferRow}
 use Rattle.status.proofs.Unless.{unless-either}
 use Rattle.st7789.specs.Parts.{warningsOf, whole}
 use Rattle.st7789.specs.Command.{warning, warningsFor, linted, logsBegun, controllerBegun, begun, begunAll, controllerReleased, released}
-use Rattle.st7789.specs.Data.{ran, taken, dataIn, storesIn}
+use Rattle.st7789.specs.Data.{ran, taken, dataIn, storesIn, totalsIn}
 use Rattle.st7789.specs.Refusals.{badState, countsOf, transferRefusal, bareRefusal}
-use Rattle.st7789.specs.Entries.{moved, transferred, bareTransferred, transferMemory, refusalWith, transferredWith, memoryWith}
+use Rattle.st7789.specs.Entries.{moved, transferred, bareTransferred, transferTotals, bareTotals, transferMemory, refusalWith, transferredWith, totalsWith, memoryWith}
 use Rattle.st7789.specs.declared.PanelMemory.{PanelMemory}
 use Rattle.st7789.specs.declared.PanelMemory.the-variants.{Lent, Without}
 use Rattle.st7789.specs.declared.Logs.{Logs}
@@ -321,6 +321,15 @@ lent-beside p s w Lent dc bytes lent =
     ap₂ (λ n (r : St7789p3). unlessRefused n (written lent (storesIn dc bytes (r .controller))) lent)
     (refusal-beside p s w Lent (length lent) (length bytes)) (w .agree .rest)
 lent-beside p s w Without dc bytes lent = refl
+
+pub totals-beside :
+    (p s : St7789p3) → Beside p s → (memory : PanelMemory) (dc : Bool) (bytes : List ℕ) (cells : ℕ) →
+    totalsWith memory dc bytes cells p ≡ totalsWith memory dc bytes cells s
+unfolding transferTotals bareTotals
+totals-beside p s w Lent dc bytes cells =
+    ap₂ (λ n (r : St7789p3). unlessRefused n (totalsIn dc bytes (r .controller)) noTotals) (refusal-beside p s w Lent cells (length bytes)) (w .agree .rest)
+totals-beside p s w Without dc bytes cells =
+    ap₂ (λ n (r : St7789p3). unlessRefused n (totalsIn dc bytes (r .controller)) noTotals) (refusal-beside p s w Without cells (length bytes)) (w .agree .rest)
 
 -- The profile itself stays.
 commands-profile : (t : ℕ) (bytes : List ℕ) (s : St7789p3) → begunAll t bytes s .controller .cfg .strict ≡ s .controller .cfg .strict

@@ -9,7 +9,7 @@ use lib.Dec.{eqb}
 use lib.ListN.{length, take, set}
 use lib.Seq.{getD-take}
 use Rattle.status.specs.Numbers.{unlessRefused}
-use Rattle.pixels.specs.Run.{written}
+use Rattle.pixels.specs.Run.{written, noTotals}
 use Rattle.codes.specs.Codes.{kindOf, needOf, commandOf, isStored, placeOf}
 use Rattle.codes.proofs.Bytes.{needFor}
 use Rattle.lists.specs.Fixed.{places, used}
@@ -26,9 +26,9 @@ use Rattle.chip.specs.declared.InForce.the-variants.{Code}
 use Rattle.chip.proofs.Cuts.{due-enough, window-agrees, registers-agree, taken-params}
 use Rattle.st7789.specs.Parts.{traceOf, warningsOf, withChip, withCounts, withLogs}
 use Rattle.st7789.specs.Command.{warningsFor, begunRecord, controllerBegun, begun, begunAll, controllerReleased, released}
-use Rattle.st7789.specs.Data.{morePixels, moreParams, droppedAdded, ran, taken, dataIn, storesIn}
+use Rattle.st7789.specs.Data.{morePixels, moreParams, droppedAdded, ran, taken, dataIn, storesIn, totalsIn}
 use Rattle.st7789.specs.Refusals.{transferRefusal}
-use Rattle.st7789.specs.Entries.{moved, transferred, transferMemory, bareTransferred}
+use Rattle.st7789.specs.Entries.{moved, transferred, transferTotals, transferMemory, bareTransferred}
 use Rattle.st7789.specs.declared.Controller.{Controller}
 use Rattle.st7789.specs.declared.St7789p3.{St7789p3}
 use Rattle.st7789.proofs.Tests.{clause}
@@ -282,3 +282,8 @@ pub memory-same :
 unfolding transferMemory
 memory-same s r e dc bytes memory i =
     unlessRefused (refusal-same s r e (length memory) (length bytes) i) (written memory (storesIn dc bytes (e i .fields))) memory
+
+-- What is answered of the pixels.
+pub totals-same : (s r : St7789p3) → Same s r → (dc : Bool) (bytes : List ℕ) (cells : ℕ) → transferTotals dc bytes cells s ≡ transferTotals dc bytes cells r
+unfolding transferTotals
+totals-same s r e dc bytes cells i = unlessRefused (refusal-same s r e cells (length bytes) i) (totalsIn dc bytes (e i .fields)) noTotals

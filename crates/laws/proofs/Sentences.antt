@@ -52,6 +52,8 @@ swreset-keeps t s =
       ramwrs = refl;
       pixels = refl;
       dropped = refl;
+      inverted = refl;
+      unmapped = refl;
       woken = refl;
       nowhere = λ bytes. refl;
     }

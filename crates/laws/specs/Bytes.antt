@@ -98,6 +98,8 @@ countsByByte c n =
       «ramwr_count» = cond (eqb c 0x2C) (n .«ramwr_count» + 1) (n .«ramwr_count»);
       «pixels_written» = n .«pixels_written»;
       «dropped_params» = n .«dropped_params»;
+      inverted = n .inverted;
+      unmapped = n .unmapped;
     }
 
 -- "2C: .. pixel run on, .. 3C: pixel run on, .. Any other: run off"

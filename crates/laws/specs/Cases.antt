@@ -113,9 +113,13 @@ traced used p pixels current s =
 abbrev pub warned : ℕ → St7789p3
 warned n = onController (λ k. withLogs (record { traced = k .logs .traced; warned = n; current = k .logs .current }) k) plain
 
--- The four counts.
-abbrev pub counted : ℕ → ℕ → ℕ → ℕ → St7789p3
-counted a b c d = onController (withCounts (record { commands = a; «ramwr_count» = b; «pixels_written» = c; «dropped_params» = d })) plain
+-- The six counts.
+abbrev pub counted : ℕ → ℕ → ℕ → ℕ → ℕ → ℕ → St7789p3
+counted a b c d e f =
+    onController
+    (withCounts
+    (record { commands = a; «ramwr_count» = b; «pixels_written» = c; «dropped_params» = d; inverted = e; unmapped = f }))
+    plain
 
 -- The dirty span.
 abbrev pub spanned : Span → St7789p3
@@ -170,11 +174,14 @@ stateLimits =
 -- The limits of COUNT_HIGH: "above 2^63"; of the pixel bytes only the current record's.
 unfoldable pub countLimits : List Limit
 countLimits =
-    given 0 (counted (2 ^ 63) (2 ^ 63) (2 ^ 63) (2 ^ 63))
-    ∷ given 5 (counted (2 ^ 63 + 1) 0 0 0)
-    ∷ given 5 (counted 0 (2 ^ 63 + 1) 0 0)
-    ∷ given 5 (counted 0 0 (2 ^ 63 + 1) 0)
-    ∷ given 5 (counted 0 0 0 (2 ^ 63 + 1))
+    given 0 (counted (2 ^ 63) (2 ^ 63) (2 ^ 63) (2 ^ 63) (2 ^ 63) (2 ^ 63))
+    ∷ given 5 (counted (2 ^ 63 + 1) 0 0 0 0 0)
+    ∷ given 5 (counted 0 (2 ^ 63 + 1) 0 0 0 0)
+    ∷ given 5 (counted 0 0 (2 ^ 63 + 1) 0 0 0)
+    ∷ given 5 (counted 0 0 0 (2 ^ 63 + 1) 0 0)
+    -- 02, Q-3: "COUNT_HIGH also looks at both."
+    ∷ given 5 (counted 0 0 0 0 (2 ^ 63 + 1) 0)
+    ∷ given 5 (counted 0 0 0 0 0 (2 ^ 63 + 1))
     ∷ given 0 (traced 1 noParams (2 ^ 63) (At 0) plain)
     ∷ given 5 (traced 1 noParams (2 ^ 63 + 1) (At 0) plain)
     ∷ given 0 (traced 1 noParams (2 ^ 63 + 1) Nothing plain)
@@ -190,8 +197,8 @@ sent =
     ∷ record { state = plain; cells = 76800; bytes = 65537; number = 4 }
     -- "Tests run in number order"
     ∷ record { state = warned 129; cells = 0; bytes = 65537; number = 1 }
-    ∷ record { state = counted (2 ^ 63 + 1) 0 0 0; cells = 0; bytes = 65537; number = 2 }
-    ∷ record { state = counted (2 ^ 63 + 1) 0 0 0; cells = 76800; bytes = 65537; number = 4 }
+    ∷ record { state = counted (2 ^ 63 + 1) 0 0 0 0 0; cells = 0; bytes = 65537; number = 2 }
+    ∷ record { state = counted (2 ^ 63 + 1) 0 0 0 0 0; cells = 76800; bytes = 65537; number = 4 }
     ∷ []
 
 -- A transfer, a transfer without memory, and what tests memory alone: a pixel, a reset, a panel made over lent memory.
@@ -215,7 +222,7 @@ cases =
     ∷ bareCase 4 plain 65537
     ∷ bareCase 1 (warned 129) 65537
     ∷ bareCase 1 (traced 129 noParams (2 ^ 63 + 1) (At 0) plain) 0
-    ∷ bareCase 4 (counted (2 ^ 63 + 1) 0 0 0) 65537
+    ∷ bareCase 4 (counted (2 ^ 63 + 1) 0 0 0 0 0) 65537
     -- BAD_MEMORY of what tests memory alone
     ∷ memoryCase 0 76800
     ∷ memoryCase 2 76799

@@ -4,3 +4,4 @@ pub mod Same
 pub mod Cases
 pub mod Swreset
 pub mod Profiles
+pub mod Answered

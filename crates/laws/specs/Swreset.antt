@@ -17,5 +17,7 @@ pub record ResetKeeps (s r : St7789p3) : Type 0 where
   pub ramwrs : r .controller .counts .«ramwr_count» ≡ s .controller .counts .«ramwr_count»
   pub pixels : r .controller .counts .«pixels_written» ≡ s .controller .counts .«pixels_written»
   pub dropped : r .controller .counts .«dropped_params» ≡ s .controller .counts .«dropped_params»
+  pub inverted : r .controller .counts .inverted ≡ s .controller .counts .inverted
+  pub unmapped : r .controller .counts .unmapped ≡ s .controller .counts .unmapped
   pub woken : r .controller .chip .times .slpout ≡ s .controller .chip .times .slpout
   pub nowhere : (bytes : List ℕ) → storesIn false bytes (s .controller) ≡ []

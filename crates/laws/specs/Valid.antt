@@ -34,4 +34,6 @@ pub record Bounded (s : St7789p3) : Type 0 where
   pub ramwrs : s .controller .counts .«ramwr_count» ≤ 2 ^ 63 + 65536
   pub pixels : s .controller .counts .«pixels_written» ≤ 2 ^ 63 + 65536
   pub dropped : s .controller .counts .«dropped_params» ≤ 2 ^ 63 + 65536
+  pub inverted : s .controller .counts .inverted ≤ 2 ^ 63 + 65536
+  pub unmapped : s .controller .counts .unmapped ≤ 2 ^ 63 + 65536
   pub held : (i : ℕ) → heldAt i s ≤ 2 ^ 63 + 65536

@@ -22,6 +22,7 @@ use Rattle.marks.proofs.Marks.mark_row as mark-row
 use Rattle.marks.proofs.Marks.mark_rows as mark-rows
 use Rattle.marks.proofs.Marks.span as span
 use Rattle.marks.proofs.Marks.bad as marks-bad
+use Rattle.pixels.proofs.Totals.none as totals-none
 use Rattle.pixels.proofs.bytewise.joined as joined
 use Rattle.pixels.proofs.bytewise.arrive as arrive
 use Rattle.pixels.proofs.store_at as store-at
@@ -129,6 +130,9 @@ span-one κs args x y u v p q = (same p q, refl)
 
 pub marks-bad-one : Only marks-bad.ended marks-bad.Reads.Learnt
 marks-bad-one κs args x y u v p q = (same p q, refl)
+
+pub totals-none-one : Only totals-none.ended totals-none.Reads.Learnt
+totals-none-one κs args x y u v p q = (same p q, refl)
 
 pub joined-one : Only joined.ended joined.Reads.Learnt
 joined-one κs args x y u v p q = (same p q, refl)

@@ -8,7 +8,7 @@ use lib.ListN.{length, getD, replicate}
 use borrow.Author.Tests.{eqb-false}
 use Rattle.status.specs.Numbers.{number}
 use Rattle.st7789.specs.Refusals.{transferRefusal}
-use Rattle.st7789.specs.declared.Answer.{Answer}
+use Rattle.st7789.specs.declared.Transferred.{Transferred}
 use Rattle.st7789.specs.declared.St7789p3.{St7789p3}
 use Rattle.publishing.specs.declared.Published.{Published}
 use Rattle.publishing.specs.Publish.{publishRefusal, published, publishedFrame}
@@ -72,7 +72,7 @@ module _ (f : Transfer) (keeps : KeepsTransfer f) where
   refuses-not-all refuses = refuses fresh first (keeps fresh first .0 ∙ first-accepted)
 
   -- "One fixed answer", whatever memory does
-  pub not-fixed : (d : Answer) → ((p : Panel) (c : Call) → f p c .answer ≡ d) → ⊥
+  pub not-fixed : (d : Transferred) → ((p : Panel) (c : Call) → f p c .answer ≡ d) → ⊥
   not-fixed d fixed =
       apart (λ a. pixels (a .panel)) 0 2 (ap pixels (keeps fresh first .1 .0) ∙ no-pixels) (ap pixels (keeps begunPanel second .1 .0) ∙ two-pixels)
       refl (fixed fresh first ∙ sym (fixed begunPanel second))
@@ -85,7 +85,7 @@ module _ (f : Transfer) (keeps : KeepsTransfer f) where
 
   pub memory-changes : ((p : Panel) (c : Call) → f p c .memory ≡ p .memory) → ⊥
   memory-changes stays =
-      apart (cell 0) 0xF800 0 (ap (cell 0) (keeps begunPanel second .1 .1) ∙ second-stores) first-stores-nothing refl (stays begunPanel second)
+      apart (cell 0) 0xF800 0 (ap (cell 0) (keeps begunPanel second .1 .1 .1) ∙ second-stores) first-stores-nothing refl (stays begunPanel second)
 
   -- P1, by its own answers.
   both-left : leftBy f (leftBy f fresh first) second ≡ after begunPanel second
@@ -95,7 +95,7 @@ module _ (f : Transfer) (keeps : KeepsTransfer f) where
   pub not-idle : ((c d : Call) → leftBy f (leftBy f fresh c) d ≡ leftBy f fresh c) → ⊥
   not-idle idles =
       apart (λ p. cell 0 (p .memory)) 0xF800 0 (ap (λ p. cell 0 (p .memory)) both-left ∙ second-stores)
-      (ap (cell 0) (keeps fresh first .1 .1) ∙ first-stores-nothing) refl (idles first second)
+      (ap (cell 0) (keeps fresh first .1 .1 .1) ∙ first-stores-nothing) refl (idles first second)
 
 -- What is published: P1's pixels, then one pixel more.
 abbrev blank : List ℕ

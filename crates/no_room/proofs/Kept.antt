@@ -17,7 +17,7 @@ use Rattle.no_room.specs.Kept.{Transfer, KeepsTransfer, leftBy, KeepsPub
 use Rattle.no_room.specs.Promised.{statusOf, promisedTransfer, promisedPublish}
 
 pub as-promised : (f : Transfer) → KeepsTransfer f → leftBy f ≡ after
-as-promised f keeps i p c = record { state = keeps p c .1 .0 i; memory = keeps p c .1 .1 i }
+as-promised f keeps i p c = record { state = keeps p c .1 .0 i; memory = keeps p c .1 .1 .1 i }
 
 pub dim-as-promised : (f : Dim) → KeepsDim f → f ≡ dimmed
 dim-as-promised f keeps i pixel level scale = keeps pixel level scale i
@@ -42,7 +42,7 @@ numbered (x ∷ l) e =
 pub transfer-kept : KeepsTransfer promisedTransfer
 unfolding promisedTransfer transferRefusal
 transfer-kept p c =
-    (numbered (transferRow (badState (p .state)) (length (p .memory)) (length (c .bytes)) (countsOf (p .state))) refl, (refl, refl))
+    (numbered (transferRow (badState (p .state)) (length (p .memory)) (length (c .bytes)) (countsOf (p .state))) refl, (refl, (refl, refl)))
 
 pub publish-kept : KeepsPublish promisedPublish
 unfolding promisedPublish publishRefusal

@@ -2,7 +2,7 @@
 use Rattle.geometry.specs.Place.{mapOf, outcome, next}
 use Rattle.marks.specs.Rows.{noRows, allRows, mark, spanOf, marksBad}
 use Rattle.pixels.specs.Bytes.{arrival}
-use Rattle.pixels.specs.Run.{stores, walkAfter, pixelsCounted}
+use Rattle.pixels.specs.Run.{stores, walkAfter, pixelsCounted, totalsOf}
 use Rattle.codes.specs.Codes.{kindOf, needOf}
 use Rattle.lists.specs.Params.{filled, differ}
 use Rattle.boot.specs.Boot.{fits, comparedFrom}
@@ -12,10 +12,10 @@ use Rattle.chip.specs.Apply.{appliedIfDue, chipTaken}
 use Rattle.st7789.specs.Command.{begun, controllerReleased}
 use Rattle.st7789.specs.Data.{ran, taken, dataIn}
 use Rattle.st7789.specs.Refusals.{badState, transferRefusal}
-use Rattle.st7789.specs.Entries.{freshController, emptyLists, moved, transferred, transferMemory}
+use Rattle.st7789.specs.Entries.{freshController, emptyLists, moved, transferred, transferTotals, transferMemory}
 use Rattle.light.specs.Light.{dimmed}
 use Rattle.publishing.specs.Publish.{publishRefusal, published, publishedFrame}
 
 unfoldable pub model : Unit {0}
-unfolding kindOf needOf mapOf outcome next noRows allRows mark spanOf marksBad arrival stores walkAfter pixelsCounted filled differ fits comparedFrom brokenBy timesAfter freshChip chipBegun chipReleased appliedIfDue chipTaken begun controllerReleased ran taken dataIn badState transferRefusal freshController emptyLists moved transferred transferMemory dimmed publishRefusal published publishedFrame
+unfolding kindOf needOf mapOf outcome next noRows allRows mark spanOf marksBad arrival stores walkAfter pixelsCounted totalsOf filled differ fits comparedFrom brokenBy timesAfter freshChip chipBegun chipReleased appliedIfDue chipTaken begun controllerReleased ran taken dataIn badState transferRefusal freshController emptyLists moved transferred transferTotals transferMemory dimmed publishRefusal published publishedFrame
 model = tt

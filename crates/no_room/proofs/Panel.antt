@@ -55,8 +55,13 @@ take-warnings-one κs args x y u v p q = (same p q, refl)
 
 pub transfer-one : Only transfer.ended transfer.Reads.Learnt
 transfer-one κs args x y u v p q = (
-  answered x y (p .0) (q .0) (p .1 .0) (q .1 .0),
-  λ i. (tt, (tt, (tt, (tt, (tt, (tt, (same (p .1 .1) (q .1 .1) i, tt))))))),
+  λ i.
+      record {
+        panel = same (p .1 .0) (q .1 .0) i;
+        totals = same (p .1 .1 .0) (q .1 .1 .0) i;
+        status = told (x .status) (y .status) (p .0) (q .0) i;
+      },
+  λ i. (tt, (tt, (tt, (tt, (tt, (tt, (same (p .1 .1 .1) (q .1 .1 .1) i, tt))))))),
 )
 
 pub reset-one : Only reset.ended reset.Reads.Learnt

@@ -1,10 +1,11 @@
 -- Examples: 01's worked examples as rows of one table: the transfers made on a fresh panel, and a test of what they leave; of dimming, a
--- test of what it answers. Those of Q-14 as rows of another, each under both profiles.
+-- test of what it answers. Those of Q-14 as rows of another, each under both profiles, and those of Q-3 as rows of a third.
 use Prim.Native.Nat.{ℕ, _+_, _*_}
 use mathlib.Core.Bool.{Bool, true, false, not, _&&_}
 use mathlib.Core.List.{List, [], _∷_, _++_, foldl, map}
 use lib.ListN.{getD, take, replicate}
 use lib.Dec.{eqb}
+use Rattle.pixels.specs.declared.Totals.{Totals}
 use Rattle.pixels.specs.declared.Carry.{Carry}
 use Rattle.pixels.specs.declared.Carry.the-variants.{Empty, High}
 use Rattle.marks.specs.Rows.{spanOf}
@@ -19,7 +20,9 @@ use Rattle.sequence.specs.Sequence.{bootSequence}
 use Rattle.boot.specs.Boot.{compared, stepOf}
 use Rattle.sequence.specs.declared.BootStep.{BootStep}
 use Rattle.st7789.specs.Parts.{traceOf}
-use Rattle.no_room.specs.Panels.{Call, Panel, freshUnder, fresh}
+use Rattle.st7789.specs.Entries.{transferred, transferTotals}
+use Rattle.st7789.specs.declared.St7789p3.{St7789p3}
+use Rattle.no_room.specs.Panels.{Call, Panel, freshUnder, fresh, after}
 use Rattle.no_room.specs.Kept.{Dim}
 
 -- A row of the table.
@@ -175,6 +178,81 @@ timed =
     -- the boot rows at their delays: 20 ms after 01, and so as under plain
     ∷ record { calls = sentFrom 0 bootSequence; strict = 2 ∷ []; plain = 2 ∷ [] }
     ∷ []
+
+-- A row of Q-3's table: the transfers, and the totals that each of them answers.
+pub record Counted : Type 0 where
+  pub calls : List Call
+  pub answers : List Totals
+
+abbrev pub totals : ℕ → ℕ → ℕ → Totals
+totals stored inverted unmapped = record { stored = stored; inverted = inverted; unmapped = unmapped }
+
+-- What calls answer in turn, for a way to make one and for what it answers.
+abbrev pub answersBy : (Panel → Call → Panel) → (Panel → Call → Totals) → Panel → List Call → List Totals
+answersBy make told p [] = []
+answersBy make told p (c ∷ calls) = told p c ∷ answersBy make told (make p c) calls
+
+-- The same by the state alone, over memory of the right length.
+abbrev pub answersFrom : St7789p3 → List Call → List Totals
+answersFrom s [] = []
+answersFrom s (c ∷ calls) =
+    transferTotals (c .dc) (c .bytes) 76800 s ∷ answersFrom (transferred (c .time) (c .dc) (c .bytes) (c .release) 76800 s) calls
+
+-- Q-3: "Each pixel's outcome shall be named stored, inverted or unmapped, the run shall add them up, and a transfer shall answer its own
+-- three totals"
+unfoldable pub counted : List Counted
+counted =
+    -- P3, an inverted window: one inverted; its commands and their parameters answer none
+    record {
+      calls = command 0x2A ∷ segment (0x00 ∷ 0x05 ∷ 0x00 ∷ 0x04 ∷ []) ∷ command 0x2C ∷ segment (0xF8 ∷ 0x00 ∷ []) ∷ [];
+      answers = totals 0 0 0 ∷ totals 0 0 0 ∷ totals 0 0 0 ∷ totals 0 1 0 ∷ [];
+    }
+    -- P7, rows past the panel's: one unmapped
+    ∷ record {
+      calls =
+          command 0x2B
+          ∷ segment (0x00 ∷ 0xF0 ∷ 0x01 ∷ 0x3F ∷ [])
+          ∷ command 0x36
+          ∷ segment (0x20 ∷ [])
+          ∷ command 0x2C
+          ∷ segment (0xF8 ∷ 0x00 ∷ [])
+          ∷ [];
+      answers = replicate 5 (totals 0 0 0) ++ (totals 0 0 1 ∷ []);
+    }
+    -- a pixel cut over two transfers: none, then one stored
+    ∷ record {
+      calls = command 0x2C ∷ segment (0xF8 ∷ []) ∷ segment (0x00 ∷ []) ∷ [];
+      answers = totals 0 0 0 ∷ totals 0 0 0 ∷ totals 1 0 0 ∷ [];
+    }
+    -- data outside a run, and after a CS release
+    ∷ record {
+      calls = segment (0xF8 ∷ 0x00 ∷ []) ∷ command 0x2C ∷ lastSegment (0xF8 ∷ 0x00 ∷ []) ∷ segment (0xF8 ∷ 0x00 ∷ []) ∷ [];
+      answers = totals 0 0 0 ∷ totals 0 0 0 ∷ totals 1 0 0 ∷ totals 0 0 0 ∷ [];
+    }
+    -- the full window under MV, 320 by 240, and then MV off: of a row of 320 pixels 240 map
+    ∷ record {
+      calls = command 0x36 ∷ segment (0x20 ∷ []) ∷ command 0x01 ∷ command 0x36 ∷ segment (0x00 ∷ []) ∷ command 0x2C ∷ segment (replicate 640 0xF8) ∷ [];
+      answers = replicate 6 (totals 0 0 0) ++ (totals 240 0 80 ∷ []);
+    }
+    -- its right half, columns 160 to 319, set under MV: half of it maps
+    ∷ record {
+      calls =
+          command 0x36
+          ∷ segment (0x20 ∷ [])
+          ∷ command 0x2A
+          ∷ segment (0x00 ∷ 0xA0 ∷ 0x01 ∷ 0x3F ∷ [])
+          ∷ command 0x36
+          ∷ segment (0x00 ∷ [])
+          ∷ command 0x2C
+          ∷ segment (replicate 640 0xF8)
+          ∷ [];
+      answers = replicate 7 (totals 0 0 0) ++ (totals 160 0 160 ∷ []);
+    }
+    ∷ []
+
+-- A fresh panel in a run over its full window: a full flush is 153,600 bytes from here on.
+abbrev pub flushing : Panel
+flushing = after fresh (command 0x2C)
 
 -- The table, for a way to dim.
 unfoldable pub rows : Dim → List Row

@@ -9,6 +9,7 @@ use Rattle.status.specs.Numbers.{number}
 use Rattle.status.specs.declared.Status.{Status}
 use Rattle.board.specs.declared.BoardDomain.{BoardDomain}
 use Rattle.board.specs.declared.PanelConfig.{PanelConfig}
+use Rattle.st7789.specs.declared.Answer.{Answer}
 use Rattle.st7789.specs.declared.Controller.{Controller}
 use Rattle.st7789.proofs.St7789p3.new as new
 use Rattle.st7789.proofs.St7789p3.reset as reset
@@ -23,7 +24,12 @@ use Rattle.views.proofs.frame as frame
 use Rattle.hosts.specs.Calls as calls
 use Rattle.hosts.specs.Calls.{Host, Machine, onController}
 use Rattle.no_room.specs.Panels.{Call, Panel}
-use Rattle.no_room.specs.Kept.{lent, Done, Transfer, KeepsTransfer, Shown, Publish, KeepsPublish}
+use Rattle.no_room.specs.Kept.{lent, Transfer, KeepsTransfer, leftBy, Shown, Publish, KeepsPublish}
+
+-- What making a panel or resetting it leaves: the answer, and memory.
+pub record Done : Type 0 where
+  pub answer : Answer
+  pub memory : List ℕ
 
 -- What a whole view leaves: the status, and the buffer.
 pub record Filled : Type 0 where
@@ -82,9 +88,13 @@ pub record KeepAll (f : Functions) : Type 0 where
 abbrev pub panelOf : Host → Panel
 panelOf h = record { state = h .panel; memory = h .memory }
 
--- What a transfer or a reset leaves of a host.
-abbrev pub leftOf : Done → Host → Host
-leftOf d h = record { panel = d .answer .panel; memory = d .memory; frame = h .frame }
+-- A host with another panel, and so what a transfer or a reset leaves of it.
+abbrev pub leftOf : Panel → Host → Host
+leftOf p h = record { panel = p .state; memory = p .memory; frame = h .frame }
+
+-- The panel that a reset leaves.
+abbrev pub doneOf : Done → Panel
+doneOf d = record { state = d .answer .panel; memory = d .memory }
 
 -- And what a publish leaves.
 abbrev pub shownOf : Shown → Host → Host
@@ -102,10 +112,10 @@ settledBy f (calls.brightness level scale duty) k = f .«set_brightness» k leve
 
 -- What a call leaves of a host, by its function.
 abbrev pub stepBy : Functions → Host → calls.Call → Host
-stepBy f h (calls.commands t bytes cs) = leftOf (f .transfer (panelOf h) (sending t false bytes cs)) h
-stepBy f h (calls.segment t bytes cs) = leftOf (f .transfer (panelOf h) (sending t true bytes cs)) h
+stepBy f h (calls.commands t bytes cs) = leftOf (leftBy (f .transfer) (panelOf h) (sending t false bytes cs)) h
+stepBy f h (calls.segment t bytes cs) = leftOf (leftBy (f .transfer) (panelOf h) (sending t true bytes cs)) h
 stepBy f h calls.publish = shownOf (f .publish (panelOf h) (h .frame)) h
-stepBy f h (calls.reset domain) = leftOf (f .reset (panelOf h) domain) h
+stepBy f h (calls.reset domain) = leftOf (doneOf (f .reset (panelOf h) domain)) h
 stepBy f h calls.markAll = onController (f .«mark_all_dirty») h
 stepBy f h (calls.sets x) = onController (settledBy f x) h
 stepBy f h (calls.looks x) = h

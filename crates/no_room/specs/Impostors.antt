@@ -5,6 +5,7 @@ use mathlib.Core.List.{List, [], _∷_}
 use lib.Dec.{ltb, eqb}
 use lib.ListN.{getD, replicate}
 use Rattle.status.specs.declared.Status.the-variants.{Ok}
+use Rattle.pixels.specs.Run.{noTotals}
 use Rattle.publishing.specs.Publish.{noFlags}
 use Rattle.marks.specs.declared.Span.the-variants.{Nothing}
 use Rattle.hosts.specs.Calls as calls
@@ -17,7 +18,7 @@ use Rattle.no_room.specs.Promised.{promisedTransfer, promisedPublish, pr
 abbrev pub idling : Transfer
 idling p c =
     cond (c .dc && ltb 0 (p .state .controller .counts .«pixels_written»))
-    (record { answer = record { panel = p .state; status = Ok }; memory = p .memory }) (promisedTransfer p c)
+    (record { answer = record { panel = p .state; totals = noTotals; status = Ok }; memory = p .memory }) (promisedTransfer p c)
 
 -- It publishes to a frame whose first number is 0, and accepts and forgets every other publish.
 abbrev pub publishingOnce : Publish

@@ -5,7 +5,7 @@ use mathlib.Core.List.{List, []}
 use denote.Ref.{RefT}
 use denote.Triple.Entry.{Args}
 use denote.Triple.Clauses.{atExit}
-use Rattle.st7789.specs.declared.Answer.{Answer}
+use Rattle.st7789.specs.declared.Transferred.{Transferred}
 use Rattle.st7789.specs.declared.PanelMemory.the-variants.{Lent}
 use Rattle.st7789.proofs.St7789p3.transfer as transfer
 use Rattle.publishing.specs.declared.Published.{Published}
@@ -18,13 +18,13 @@ abbrev pub lent : List ℕ → RefT (List ℕ)
 lent numbers = record { ptr = (0, 0); name = 0; now = numbers }
 
 -- What a transfer leaves: the answer, and memory.
-pub record Done : Type 0 where
-  pub answer : Answer
+pub record Sent : Type 0 where
+  pub answer : Transferred
   pub memory : List ℕ
 
 -- Anything of the type of a transfer.
 abbrev pub Transfer : Type 0
-Transfer = Panel → Call → Done
+Transfer = Panel → Call → Sent
 
 -- A panel and a call as the arguments of `transfer`, panel memory lent.
 abbrev transferArgs : Panel → Call → Args transfer.signature ([], ([], tt))

@@ -6,7 +6,7 @@ use Rattle.status.specs.Tests.{memoryRefusal}
 use Rattle.status.specs.declared.Status.{Status}
 use Rattle.status.specs.declared.Status.the-variants.{Ok, BadState, BadMemory, BadFrame, TooLong, CountHigh, LogLong, BadLog}
 use Rattle.st7789.specs.Refusals.{transferRefusal}
-use Rattle.st7789.specs.Entries.{freshPanel, newMemory, resetState, resetMemory, poweredSet, showsSet, brightnessSet, allMarked}
+use Rattle.st7789.specs.Entries.{freshPanel, transferTotals, newMemory, resetState, resetMemory, poweredSet, showsSet, brightnessSet, allMarked}
 use Rattle.views.specs.Views.{pixelSeen, frameRefusal, frameSeen}
 use Rattle.publishing.specs.Publish.{publishRefusal, published, publishedSpan, publishedFlags, publishedFrame}
 use Rattle.no_room.specs.Panels.{after}
@@ -24,6 +24,7 @@ promisedTransfer p c =
       answer =
           record {
             panel = after p c .state;
+            totals = transferTotals (c .dc) (c .bytes) (length (p .memory)) (p .state);
             status = statusOf (transferRefusal (p .state) (length (p .memory)) (length (c .bytes)));
           };
       memory = after p c .memory;

@@ -10,10 +10,12 @@ use board::PanelConfig;
 use lists::PLACES;
 use lists::Params;
 use lists::Warning;
+use pixels::Totals;
 use st7789::Answer;
 use st7789::Controller;
 use st7789::PanelMemory;
 use st7789::St7789p3;
+use status::Status;
 
 // How much of the memory, the frame and the view buffer is lent.
 pub(crate) struct Lent {
@@ -64,8 +66,8 @@ pub(crate) fn lent_to(call: usize, lent: Lent) -> Lent {
 
 fn memory_of(call: usize) -> PanelMemory {
     match call {
-        forms::TRANSFER => PanelMemory::Lent,
-        _ => PanelMemory::Without,
+        forms::BARE => PanelMemory::Without,
+        _ => PanelMemory::Lent,
     }
 }
 
@@ -76,13 +78,36 @@ fn answered(answer: Answer) -> St7789p3 {
     answer.panel
 }
 
-// transfer TIME DC CS BYTES, bare TIME DC CS BYTES
+// The totals of a transfer that asked for them, or its refusal.
+fn print_sent(call: usize, status: Status, totals: Totals) {
+    if (call == forms::TOTALS) & status::accepted(status) {
+        print::form(
+            b"totals 0 0 0\n",
+            [
+                totals.stored,
+                totals.inverted,
+                totals.unmapped,
+                0,
+                0,
+                0,
+                0,
+                0,
+            ],
+        );
+    }
+    print::refusal(status);
+}
+
+// transfer TIME DC CS BYTES, bare TIME DC CS BYTES, totals TIME DC CS BYTES
 fn send(panel: St7789p3, read: Line, bytes: &[u8], memory: &mut [u16]) -> St7789p3 {
     let n = read.numbers;
     let dc = n[2] == 1;
     let release = n[3] == 1;
     let answer = panel.transfer(n[1], dc, bytes, release, memory_of(read.call), memory);
-    answered(answer)
+    let status = answer.status;
+    let totals = answer.totals;
+    print_sent(read.call, status, totals);
+    answer.panel
 }
 
 fn domain(n: u64) -> BoardDomain {
@@ -177,7 +202,7 @@ pub(crate) fn run(
     let n = read.numbers;
     let call = read.call;
     match call {
-        forms::TRANSFER | forms::BARE => send(panel, read, bytes, memory),
+        forms::TRANSFER | forms::BARE | forms::TOTALS => send(panel, read, bytes, memory),
         forms::RESET => answered(panel.reset(domain(n[1]), memory)),
         forms::FRESH => answered(St7789p3::new(config(n[1], n[2]), memory)),
         forms::PUBLISH => publish(panel, memory, frame),

@@ -12,6 +12,7 @@ use lists::Current;
 use lists::Stored;
 use pixels::Carry;
 use st7789::Controller;
+use st7789::Counts;
 use st7789::St7789p3;
 use status::PANEL_PIXELS;
 use timing::Moment;
@@ -100,7 +101,14 @@ fn print_current(current: Current) {
     }
 }
 
-// The rest of the state but the stored lists, after the report.
+fn print_lost(counts: Counts) {
+    print::form(
+        b"lost 0 0\n",
+        [counts.inverted, counts.unmapped, 0, 0, 0, 0, 0, 0],
+    );
+}
+
+// The rest of the chip and the current record, after the report.
 fn print_rest(chip: Chip, current: Current) {
     let decoder = chip.decoder;
     let walk = chip.walk;
@@ -148,6 +156,7 @@ pub(crate) fn print(panel: St7789p3, memory: &[u16], frame: &[u16], buffer: &mut
     print_report(panel);
     print_ctl(c.power, c.cfg);
     print_rest(c.chip, current);
+    print_lost(c.counts);
     print_all_stored(stored);
     print_digests(c, memory, frame, buffer);
 }

@@ -41,68 +41,74 @@ pub(crate) const DUMP: usize = 15;
 
 pub(crate) const PIXELS: usize = 16;
 
-const UNKNOWN: usize = 17;
+pub(crate) const TOTALS: usize = 17;
+
+const UNKNOWN: usize = 18;
 
 // An empty line, and `set` on each field, by the places in the text of `read_set`.
-const NOTHING: usize = 18;
+const NOTHING: usize = 19;
 
-pub(crate) const SET: usize = 19;
+pub(crate) const SET: usize = 20;
 
-pub(crate) const SLEEPING: usize = 19;
+pub(crate) const SLEEPING: usize = 20;
 
-pub(crate) const ON: usize = 20;
+pub(crate) const ON: usize = 21;
 
-pub(crate) const INVERTED: usize = 21;
+pub(crate) const INVERTED: usize = 22;
 
-pub(crate) const RUN: usize = 22;
+pub(crate) const RUN: usize = 23;
 
-pub(crate) const APPLIED: usize = 23;
+pub(crate) const APPLIED: usize = 24;
 
-pub(crate) const MADCTL: usize = 24;
+pub(crate) const MADCTL: usize = 25;
 
-pub(crate) const COLMOD: usize = 25;
+pub(crate) const COLMOD: usize = 26;
 
-pub(crate) const RAMCTRL: usize = 26;
+pub(crate) const RAMCTRL: usize = 27;
 
-pub(crate) const WIN: usize = 27;
+pub(crate) const WIN: usize = 28;
 
-pub(crate) const CARRY: usize = 28;
+pub(crate) const CARRY: usize = 29;
 
-pub(crate) const CMD: usize = 29;
+pub(crate) const CMD: usize = 30;
 
-pub(crate) const PARAMS: usize = 30;
+pub(crate) const PARAMS: usize = 31;
 
-pub(crate) const STORED: usize = 31;
+pub(crate) const STORED: usize = 32;
 
-pub(crate) const COMMANDS: usize = 32;
+pub(crate) const COMMANDS: usize = 33;
 
-pub(crate) const RAMWRS: usize = 33;
+pub(crate) const RAMWRS: usize = 34;
 
-pub(crate) const WRITTEN: usize = 34;
+pub(crate) const WRITTEN: usize = 35;
 
-pub(crate) const DROPPED: usize = 35;
+pub(crate) const DROPPED: usize = 36;
 
-pub(crate) const DIRTY: usize = 36;
+pub(crate) const DIRTY: usize = 37;
 
-pub(crate) const SLPOUT: usize = 37;
+pub(crate) const SLPOUT: usize = 38;
 
-pub(crate) const SLPIN: usize = 38;
+pub(crate) const SLPIN: usize = 39;
 
-pub(crate) const TRACE: usize = 39;
+pub(crate) const TRACE: usize = 40;
 
-pub(crate) const CURRENT: usize = 40;
+pub(crate) const CURRENT: usize = 41;
 
-pub(crate) const WARNINGS: usize = 41;
+pub(crate) const WARNINGS: usize = 42;
 
-pub(crate) const MEMORY: usize = 42;
+pub(crate) const MEMORY: usize = 43;
 
-pub(crate) const FRAME: usize = 43;
+pub(crate) const FRAME: usize = 44;
 
-pub(crate) const SWRESET: usize = 44;
+pub(crate) const SWRESET: usize = 45;
 
-pub(crate) const STRICT: usize = 45;
+pub(crate) const STRICT: usize = 46;
 
-const NO_FIELD: usize = 46;
+pub(crate) const LOST_INVERTED: usize = 47;
+
+pub(crate) const LOST_UNMAPPED: usize = 48;
+
+const NO_FIELD: usize = 49;
 
 // What can be wrong with a line, by the places in `print::bad_line`; 0 where nothing is.
 const UNKNOWN_CALL: usize = 1;
@@ -255,7 +261,7 @@ fn owed(call: usize, form: &[u8]) -> usize {
 
 fn read_call(call: usize, line: &[u8], bytes: &mut [u8]) -> Line {
     let form = words::word(
-        b"*tffb *tffb *f *f *lls * * *D *fo * *V *Vss *Ms * *Bn * *V",
+        b"*tffb *tffb *f *f *lls * * *D *fo * *V *Vss *Ms * *Bn * *V *tffb",
         call,
     );
     let read = read_form(form, line, bytes);
@@ -304,10 +310,10 @@ fn read_set(line: &[u8], traced: u8, warned: u8, bytes: &mut [u8]) -> Line {
     let name = words::word(line, 1);
     let field = kinds::place(
         name,
-        b"sleeping on inverted run applied madctl colmod ramctrl win carry cmd params stored commands ramwrs pixels dropped dirty slpout slpin trace current warnings memory frame swreset strict",
+        b"sleeping on inverted run applied madctl colmod ramctrl win carry cmd params stored commands ramwrs pixels dropped dirty slpout slpin trace current warnings memory frame swreset strict lost_inverted lost_unmapped",
     );
     let form = words::word(
-        b"**f **f **f **f **f **h **h **w **ssssss -*h -*h **p **cq **t **t **t **t -*ss -*t **t -*http -*i -*rht **w **w -*t **f ***",
+        b"**f **f **f **f **f **h **h **w **ssssss -*h -*h **p **cq **t **t **t **t -*ss -*t **t -*http -*i -*rht **w **w -*t **f **t **t ***",
         field,
     );
     let call = SET + least(field, NO_FIELD - SET);
@@ -331,7 +337,7 @@ fn read_named(name: &[u8], line: &[u8], traced: u8, warned: u8, bytes: &mut [u8]
     }
     let call = kinds::place(
         name,
-        b"transfer bare power switch brightness mark-all take-warnings reset fresh publish view pixel row boot lend dump pixels",
+        b"transfer bare power switch brightness mark-all take-warnings reset fresh publish view pixel row boot lend dump pixels totals",
     );
     read_call(call, line, bytes)
 }

@@ -154,7 +154,7 @@ fn chip(old: Chip, read: Line, params: Params) -> Chip {
     }
 }
 
-// set commands, ramwrs, pixels, dropped
+// set commands, ramwrs, pixels, dropped, lost_inverted, lost_unmapped
 fn counts(old: Counts, field: usize, n: u64) -> Counts {
     match field {
         forms::COMMANDS => Counts { commands: n, ..old },
@@ -170,6 +170,8 @@ fn counts(old: Counts, field: usize, n: u64) -> Counts {
             dropped_params: n,
             ..old
         },
+        forms::LOST_INVERTED => Counts { inverted: n, ..old },
+        forms::LOST_UNMAPPED => Counts { unmapped: n, ..old },
         _ => old,
     }
 }

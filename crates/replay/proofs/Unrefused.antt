@@ -36,6 +36,8 @@ record Few (n : ℕ) (s : St7789p3) : Type 0 where
   ramwrs : s .controller .counts .«ramwr_count» ≤ n
   pixels : s .controller .counts .«pixels_written» ≤ n
   dropped : s .controller .counts .«dropped_params» ≤ n
+  inverted : s .controller .counts .inverted ≤ n
+  unmapped : s .controller .counts .unmapped ≤ n
   held : pixelsHeld (s .controller .logs .current) (s .records) ≤ n
 
 not-high : (x n : ℕ) → x ≤ n → n ≤ 65536 → high x ≡ false
@@ -48,6 +50,8 @@ few-not-high n s f h =
       not-high (s .controller .counts .«ramwr_count») n (f .ramwrs) h,
       not-high (s .controller .counts .«pixels_written») n (f .pixels) h,
       not-high (s .controller .counts .«dropped_params») n (f .dropped) h,
+      not-high (s .controller .counts .inverted) n (f .inverted) h,
+      not-high (s .controller .counts .unmapped) n (f .unmapped) h,
       not-high (pixelsHeld (s .controller .logs .current) (s .records)) n (f .held) h,
     )
 
@@ -67,6 +71,8 @@ grown n s r g f =
       ramwrs = omega (arith, f .ramwrs, h .ramwrs);
       pixels = omega (arith, f .pixels, h .pixels);
       dropped = omega (arith, f .dropped, h .dropped);
+      inverted = omega (arith, f .inverted, h .inverted);
+      unmapped = omega (arith, f .unmapped, h .unmapped);
       held = omega (arith, f .held, h .held);
     }
 
@@ -87,7 +93,16 @@ plain n s (r ∷ rs) g f h =
 
 fresh-few : Few 0 (freshPanel logged)
 unfolding freshController emptyLists
-fresh-few = record { commands = omega arith; ramwrs = omega arith; pixels = omega arith; dropped = omega arith; held = omega arith }
+fresh-few =
+    record {
+      commands = omega arith;
+      ramwrs = omega arith;
+      pixels = omega arith;
+      dropped = omega arith;
+      inverted = omega arith;
+      unmapped = omega arith;
+      held = omega arith;
+    }
 
 -- An accepted log.
 module _ (log : List ℕ) (e : logRefusal log ≡ 0) where

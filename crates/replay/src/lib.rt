@@ -8,9 +8,10 @@ ghost use Rattle.logs.specs.Log.{logRefusal, badOffset};
 ghost use Rattle.st7789.specs.Entries.{freshPanel};
 ghost use Rattle.replay.specs.Replay.{logged, replayed, replayedIfGood, printed};
 use board::PanelConfig;
-use st7789::Answer;
+use pixels::Totals;
 use st7789::PanelMemory;
 use st7789::St7789p3;
+use st7789::Transferred;
 use status::Status;
 use status::accepted;
 
@@ -34,8 +35,9 @@ fn run(log: &[u8]) -> St7789p3
     ensures { λ r. ⌜ r ≡ replayed (now (log .entry)) ⌝ }
 {
     let panel = fresh();
-    let mut a = Answer {
+    let mut a = Transferred {
         panel,
+        totals: Totals::none(),
         status: Status::Ok,
     };
     let mut none = [0u16; 1];

@@ -38,8 +38,10 @@ room s cells n e =
             ramwrs = below (s .controller .counts .«ramwr_count») n (f 1) h;
             pixels = below (s .controller .counts .«pixels_written») n (f 2) h;
             dropped = below (s .controller .counts .«dropped_params») n (f 3) h;
+            inverted = below (s .controller .counts .inverted) n (f 4) h;
+            unmapped = below (s .controller .counts .unmapped) n (f 5) h;
           };
-      held = below (pixelsHeld (s .controller .logs .current) (s .records)) n (f 4) h;
+      held = below (pixelsHeld (s .controller .logs .current) (s .records)) n (f 6) h;
       current = current-placed s (t 0);
     }
 

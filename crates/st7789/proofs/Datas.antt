@@ -8,26 +8,27 @@ use lib.ListN.{length}
 use mir.Val.{Fits}
 use mir.Syntax.{w64}
 use Rattle.geometry.specs.declared.Site.{Site}
-use Rattle.pixels.specs.Run.{stores, written, walkedOn, unwalked}
+use Rattle.pixels.specs.Run.{stores, written, noTotals, together, walkedOn, unwalked}
+use Rattle.pixels.specs.declared.Totals.{Totals}
 use Rattle.pixels.specs.declared.Walked.{Walked}
-use Rattle.pixels.proofs.Laws.{counted-few}
+use Rattle.pixels.proofs.Sums.{unwalked-totals, totals-counted, totals-few}
 use Rattle.codes.specs.Codes.{commandOf}
 use Rattle.codes.specs.declared.Command.{Command}
 use Rattle.lists.specs.Params.{excess}
 use Rattle.chip.specs.Apply.{chipTaken}
-use Rattle.chip.specs.Site.{siteOf, chipStores}
+use Rattle.chip.specs.Site.{siteOf, chipStores, chipCounted, chipTotals}
 use Rattle.chip.specs.declared.InForce.{InForce}
 use Rattle.chip.specs.declared.InForce.the-variants.{Code}
 use Rattle.chip.specs.declared.Chip.{Chip}
 use Rattle.st7789.specs.Parts.{whole, withChip, withCounts}
-use Rattle.st7789.specs.Data.{walkOver, walkedChip, pixelsAdded, droppedAdded, ran, taken, takenFor, controllerData, storesIn}
+use Rattle.st7789.specs.Data.{walkOver, walkedChip, pixelsAdded, droppedAdded, ran, taken, takenFor, controllerData, storesIn, totalsIn}
 use Rattle.st7789.specs.Places.{noCommand, commandFor, commandIn}
 use Rattle.st7789.specs.Room.{Countable}
+use Rattle.st7789.specs.declared.Counts.{Counts}
 use Rattle.st7789.specs.declared.Controller.{Controller}
 
-abbrev ranBy : Walked → Controller → Controller
-ranBy w k =
-    whole (k .cfg) (k .power) (walkedChip (w .walk) (k .chip)) (pixelsAdded (w .pixels) (k .counts)) (w .marks) (k .logs)
+abbrev ranBy : Walked → Counts → Controller → Controller
+ranBy w n k = whole (k .cfg) (k .power) (walkedChip (w .walk) (k .chip)) n (w .marks) (k .logs)
 
 abbrev takenBy : Chip → ℕ → Controller → Controller
 takenBy chip n k = withCounts (droppedAdded n (k .counts)) (withChip chip k)
@@ -38,11 +39,19 @@ module _ (k : Controller) (bytes : List ℕ) where
       {site : Site} {w : Walked} → site ≡ siteOf (k .chip) → w ≡ walkedOn site (unwalked (k .chip .walk) (k .marks)) bytes → w ≡ walkOver k bytes
   walked-at e ew = ew ∙ ap (λ site. walkedOn site (unwalked (k .chip .walk) (k .marks)) bytes) e
 
-  -- A segment counts no more pixels than it has bytes.
-  pub pixels-fit : Countable (length bytes) (k .counts) → (w : Walked) → w ≡ walkOver k bytes → Fits w64 (k .counts .«pixels_written» + w .pixels)
+  -- The segment's totals are its own.
+  own-totals : walkOver k bytes .totals ≡ chipTotals (k .chip) bytes
+  own-totals = unwalked-totals (siteOf (k .chip)) (k .chip .walk) (k .marks) bytes
+
+  -- A segment has no more pixels than bytes.
+  pub pixels-fit :
+      Countable (length bytes) (k .counts) → (w : Walked) → w ≡ walkOver k bytes →
+      (k .counts .«pixels_written» + (w .totals .stored + w .totals .unmapped) < 2 ^ 64)
+      × ((k .counts .inverted + w .totals .inverted < 2 ^ 64) × (k .counts .unmapped + w .totals .unmapped < 2 ^ 64))
   pixels-fit room w e =
-      let h : w .pixels ≤ length bytes = rw e (omega (arith, counted-few (siteOf (k .chip)) (k .chip .walk) bytes)) in
-      record { fits = omega (arith, room .pixels) }
+      let t : together (w .totals) ≡ together (chipTotals (k .chip) bytes) = ap (λ w. together (w .totals)) e ∙ ap together own-totals in
+      let h : together (w .totals) ≤ length bytes = omega (arith, t, totals-few (siteOf (k .chip)) (k .chip .walk) bytes) in
+      (omega (arith, h, room .pixels), (omega (arith, h, room .inverted), omega (arith, h, room .unmapped)))
 
   pub dropped-fit :
       Countable (length bytes) (k .counts) → (n : ℕ) → n ≡ excess (k .chip .decoder .params) (length bytes) →
@@ -52,9 +61,16 @@ module _ (k : Controller) (bytes : List ℕ) where
   abbrev dataBy : Bool → InForce → Controller
   dataBy b f = cond b (ran bytes k) (takenFor f bytes k)
 
-  pub data-run : (w : Walked) → k .chip .decoder .«in_pixels» ≡ true → w ≡ walkOver k bytes → ranBy w k ≡ controllerData bytes k
+  pub data-run :
+      (w : Walked) (n : Counts) → k .chip .decoder .«in_pixels» ≡ true → w ≡ walkOver k bytes →
+      n ≡ pixelsAdded (w .totals .stored + w .totals .unmapped) (w .totals) (k .counts) → ranBy w n k ≡ controllerData bytes k
   unfolding ran
-  data-run w e ew = ap (λ w. ranBy w k) ew ∙ ap (λ b. dataBy b (k .chip .decoder .cmd)) (sym e)
+  data-run w n e ew en =
+      ap₂ (λ w n. ranBy w n k) ew
+      (en
+      ∙ ap (λ t. pixelsAdded (t .stored + t .unmapped) t (k .counts)) (ap (λ w. w .totals) ew ∙ own-totals)
+      ∙ ap (λ m. pixelsAdded m (chipTotals (k .chip) bytes) (k .counts)) (totals-counted (siteOf (k .chip)) (k .chip .walk) bytes))
+      ∙ ap (λ b. dataBy b (k .chip .decoder .cmd)) (sym e)
 
   pub data-lost : k .chip .decoder .«in_pixels» ≡ false → k .chip .decoder .cmd ≡ InForce.Nothing → k ≡ controllerData bytes k
   data-lost e ec = ap₂ (λ b f. dataBy b f) (sym e) (sym ec)
@@ -70,6 +86,17 @@ module _ (k : Controller) (bytes : List ℕ) where
   data-for e ec em ek en =
       ap₂ (λ chip n. takenBy chip n k) (ek ∙ ap (λ m. chipTaken m bytes (k .chip)) (em ∙ sym (command-for e ec))) en
       ∙ ap₂ (λ b f. dataBy b f) (sym e) (sym ec)
+
+  totals-by : Bool → Totals
+  totals-by b = cond b (chipTotals (k .chip) bytes) noTotals
+
+  pub totals-run : (w : Walked) → k .chip .decoder .«in_pixels» ≡ true → w ≡ walkOver k bytes → w .totals ≡ totalsIn true bytes k
+  unfolding totals-by
+  totals-run w e ew = ap (λ w. w .totals) ew ∙ own-totals ∙ ap totals-by (sym e)
+
+  pub totals-none : {t : Totals} → k .chip .decoder .«in_pixels» ≡ false → t ≡ noTotals → t ≡ totalsIn true bytes k
+  unfolding totals-by
+  totals-none e et = et ∙ ap totals-by (sym e)
 
   module _ (m : List ℕ) where
     stored-by : Bool → List ℕ

@@ -8,7 +8,8 @@ use borrow.Rule.Slice.PartMut.{putMid}
 use lib.Dec.{eqb}
 use lib.ListN.{length, set, take, drop, drop-of-length-le}
 use lib.Seq.{take-all}
-use Rattle.pixels.specs.Run.{Store, written}
+use Rattle.pixels.specs.Run.{Store, written, noTotals}
+use Rattle.pixels.specs.declared.Totals.{Totals}
 use Rattle.codes.specs.Codes.{kindOf, commandOf, placeOf}
 use Rattle.codes.proofs.Numbering.{stored-one, none-stored}
 use Rattle.lists.specs.Params.{filled}
@@ -22,9 +23,9 @@ use Rattle.chip.proofs.Cuts.{taken-params}
 use Rattle.status.specs.Numbers.{unlessRefused}
 use Rattle.st7789.specs.Parts.{withController}
 use Rattle.st7789.specs.Command.{begunAll, controllerReleased, released}
-use Rattle.st7789.specs.Data.{onCurrent, recordData, ran, taken, takenFor, controllerData, storedFor, storedData, dataIn, storesIn}
+use Rattle.st7789.specs.Data.{onCurrent, recordData, ran, taken, takenFor, controllerData, storedFor, storedData, dataIn, storesIn, totalsIn}
 use Rattle.st7789.specs.Refusals.{transferRefusal}
-use Rattle.st7789.specs.Entries.{moved, transferred, bareTransferred, transferMemory, refusalWith, transferredWith, memoryWith}
+use Rattle.st7789.specs.Entries.{moved, transferred, transferTotals, bareTransferred, bareTotals, transferMemory, refusalWith, transferredWith, totalsWith, memoryWith}
 use Rattle.st7789.specs.Places.{noCommand, commandFor, commandIn, cellsFor, endFor, storedTo}
 use Rattle.st7789.specs.declared.PanelMemory.{PanelMemory}
 use Rattle.st7789.specs.declared.PanelMemory.the-variants.{Lent, Without}
@@ -127,19 +128,36 @@ module _ (w : PanelMemory) (bytes m : List ℕ) (k : Controller) {dc : Bool} whe
       by-kind Lent = refl
       by-kind Without = refl
 
+-- Commands have no totals.
+pub totals-commands : (bytes : List ℕ) (k : Controller) {dc : Bool} {t : Totals} → dc ≡ false → t ≡ noTotals → t ≡ totalsIn dc bytes k
+totals-commands bytes k ed et = rw ed et
+
+-- Data has its own.
+pub totals-data : (bytes : List ℕ) (k : Controller) {dc : Bool} {t : Totals} → dc ≡ true → t ≡ totalsIn true bytes k → t ≡ totalsIn dc bytes k
+totals-data bytes k ed et = rw ed et
+
 -- The whole answer with memory or without, from a transfer over as much memory as counts as lent.
 either : {A : Type 0} (b : Bool) (x : A) → cond b x x ≡ x
 either true x = refl
 either false x = refl
 
 pub answer-with :
-    (w : PanelMemory) (t : ℕ) (dc : Bool) (bytes : List ℕ) (cs : Bool) (m : List ℕ) (s : St7789p3) {n : ℕ} {p : St7789p3} {l : List ℕ} →
+    (w : PanelMemory) (t : ℕ) (dc : Bool) (bytes : List ℕ) (cs : Bool) (m : List ℕ) (s : St7789p3) {n : ℕ} {p : St7789p3} {o : Totals} {l : List ℕ} →
     n ≡ transferRefusal s (cellsFor w (length m)) (length bytes) →
     p ≡ unlessRefused (transferRefusal s (cellsFor w (length m)) (length bytes)) (moved t dc bytes cs s) s →
+    o ≡ unlessRefused (transferRefusal s (cellsFor w (length m)) (length bytes)) (totalsIn dc bytes (s .controller)) noTotals →
     l ≡ unlessRefused (transferRefusal s (cellsFor w (length m)) (length bytes)) (storedTo w m (storesIn dc bytes (s .controller))) m →
-    (n ≡ refusalWith w s (length m) (length bytes)) × ((p ≡ transferredWith w t dc bytes cs (length m) s) × (l ≡ memoryWith w dc bytes m s))
-unfolding transferred bareTransferred transferMemory
-answer-with Lent t dc bytes cs m s en ep el = (en, (ep, el))
-answer-with Without t dc bytes cs m s en ep el =
-    let b = bare s (length bytes) in
-    (en ∙ b, (ep ∙ ap (λ k. unlessRefused k (moved t dc bytes cs s) s) b, el ∙ either (eqb (transferRefusal s 76800 (length bytes)) 0) m))
+    (n ≡ refusalWith w s (length m) (length bytes)) × ((p ≡ transferredWith w t dc bytes cs (length m) s) × ((o ≡ totalsWith w dc bytes (length m) s) × (l ≡ memoryWith w dc bytes m s)))
+unfolding transferred bareTransferred transferTotals bareTotals transferMemory
+answer-with Lent t dc bytes cs m s en ep eo el = (en, (ep, (eo, el)))
+answer-with Without t dc bytes cs m s en ep eo el =
+    let b = bare s (length bytes) in (
+      en ∙ b,
+      (
+        ep ∙ ap (λ k. unlessRefused k (moved t dc bytes cs s) s) b,
+        (
+          eo ∙ ap (λ k. unlessRefused k (totalsIn dc bytes (s .controller)) noTotals) b,
+          el ∙ either (eqb (transferRefusal s 76800 (length bytes)) 0) m,
+        ),
+      ),
+    )

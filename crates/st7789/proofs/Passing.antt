@@ -54,6 +54,8 @@ withCommands n k =
       «ramwr_count» = k .counts .«ramwr_count»;
       «pixels_written» = k .counts .«pixels_written»;
       «dropped_params» = k .counts .«dropped_params»;
+      inverted = k .counts .inverted;
+      unmapped = k .counts .unmapped;
     }
     in
     withCounts counts k
@@ -82,9 +84,9 @@ none-waits (High byte) e = absurd (true≢false e)
 
 -- Equal parts make equal controllers.
 same-parts :
-    {cfg : PanelConfig} {power : Power} {marks : Marks} {c p q : ℕ} {s s′ : Chip} {n n′ : ℕ} {l l′ : Logs} → s ≡ s′ → n ≡ n′ → l ≡ l′ →
-    whole cfg power s (record { commands = c; «ramwr_count» = n; «pixels_written» = p; «dropped_params» = q }) marks l
-    ≡ whole cfg power s′ (record { commands = c; «ramwr_count» = n′; «pixels_written» = p; «dropped_params» = q }) marks l′
+    {cfg : PanelConfig} {power : Power} {marks : Marks} {c p q v u : ℕ} {s s′ : Chip} {n n′ : ℕ} {l l′ : Logs} → s ≡ s′ → n ≡ n′ → l ≡ l′ →
+    whole cfg power s (record { commands = c; «ramwr_count» = n; «pixels_written» = p; «dropped_params» = q; inverted = v; unmapped = u }) marks l
+    ≡ whole cfg power s′ (record { commands = c; «ramwr_count» = n′; «pixels_written» = p; «dropped_params» = q; inverted = v; unmapped = u }) marks l′
 same-parts e1 e2 e3 = cc
 
 module _ (k : Controller) (quiet : alone k ≡ false) where

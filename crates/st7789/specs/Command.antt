@@ -45,6 +45,8 @@ countsBegun k n =
       «ramwr_count» = cond (is k Ramwr) (n .«ramwr_count» + 1) (n .«ramwr_count»);
       «pixels_written» = n .«pixels_written»;
       «dropped_params» = n .«dropped_params»;
+      inverted = n .inverted;
+      unmapped = n .unmapped;
     }
 
 -- The trace record of c, as it is at first.

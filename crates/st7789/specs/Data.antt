@@ -1,9 +1,11 @@
--- Rules: 01, "Commands", on data: in a run, for a command, or lost. What the controller becomes, and beside it what the lists keep.
+-- Rules: 01, "Commands", on data, and 02, Q-3: in a run, for a command, or lost. What the controller becomes, and beside it what the
+-- lists keep, what is stored, and how many pixels went which way.
 use Prim.Native.Nat.{ℕ, _+_}
 use mathlib.Core.Bool.{Bool, true, cond, _&&_}
 use mathlib.Core.List.{List, []}
 use lib.ListN.{length, set, getD}
-use Rattle.pixels.specs.Run.{Store}
+use Rattle.pixels.specs.Run.{Store, noTotals}
+use Rattle.pixels.specs.declared.Totals.{Totals}
 use Rattle.pixels.specs.declared.Walk.{Walk}
 use Rattle.pixels.specs.declared.Walked.{Walked}
 use Rattle.codes.specs.Codes.{kindOf, commandOf, isStored, placeOf}
@@ -14,7 +16,7 @@ use Rattle.lists.specs.declared.TraceRecord.{TraceRecord}
 use Rattle.lists.specs.declared.Current.{Current}
 use Rattle.lists.specs.declared.Current.the-variants.{Nothing, At}
 use Rattle.chip.specs.Apply.{chipFilled, appliedIfDue}
-use Rattle.chip.specs.Site.{chipStores, chipWalked}
+use Rattle.chip.specs.Site.{chipStores, chipCounted, chipTotals, chipWalked}
 use Rattle.chip.specs.declared.InForce.{InForce}
 use Rattle.chip.specs.declared.InForce.the-variants.{Code}
 use Rattle.chip.specs.declared.Chip.{Chip}
@@ -48,14 +50,16 @@ walkOver k bytes = chipWalked (k .chip) (k .marks) bytes
 abbrev pub walkedChip : Walk → Chip → Chip
 walkedChip k s = record { registers = s .registers; window = s .window; walk = k; decoder = s .decoder; times = s .times }
 
--- "pixels_written + 1", n times.
-abbrev pub pixelsAdded : ℕ → Counts → Counts
-pixelsAdded n k =
+-- "pixels_written + 1", n times; and 02, Q-3, of "Two new counts, inverted and unmapped" each by its total.
+abbrev pub pixelsAdded : ℕ → Totals → Counts → Counts
+pixelsAdded n t k =
     record {
       commands = k .commands;
       «ramwr_count» = k .«ramwr_count»;
       «pixels_written» = k .«pixels_written» + n;
       «dropped_params» = k .«dropped_params»;
+      inverted = k .inverted + t .inverted;
+      unmapped = k .unmapped + t .unmapped;
     }
 
 -- "the rest counted as dropped": n of them.
@@ -66,6 +70,8 @@ droppedAdded n k =
       «ramwr_count» = k .«ramwr_count»;
       «pixels_written» = k .«pixels_written»;
       «dropped_params» = k .«dropped_params» + n;
+      inverted = k .inverted;
+      unmapped = k .unmapped;
     }
 
 -- "Data in a run:"
@@ -74,8 +80,8 @@ ran bytes k =
     -- "pairs form pixels, high byte first, an odd byte waits as carry."
     let w : Walked = walkOver k bytes in
     let a : Controller = withChip (walkedChip (w .walk) (k .chip)) k in
-    -- "Stored or not, pixels_written + 1"
-    let b : Controller = withCounts (pixelsAdded (w .pixels) (a .counts)) a in
+    -- "Stored or not, pixels_written + 1", and those that vanish by themselves
+    let b : Controller = withCounts (pixelsAdded (chipCounted (k .chip) bytes) (chipTotals (k .chip) bytes) (a .counts)) a in
     -- "a stored pixel widens the dirty span by its row"
     withMarks (w .marks) b
 
@@ -132,3 +138,7 @@ dataIn bytes s =
 abbrev pub storesIn : Bool → List ℕ → Controller → List Store
 storesIn dc bytes k =
     cond (dc && k .chip .decoder .«in_pixels») (chipStores (k .chip) bytes) []
+
+-- 02, Q-3: "a transfer shall answer its own three totals": only data in a run has pixels.
+abbrev pub totalsIn : Bool → List ℕ → Controller → Totals
+totalsIn dc bytes k = cond (dc && k .chip .decoder .«in_pixels») (chipTotals (k .chip) bytes) noTotals

@@ -1,10 +1,11 @@
--- Rules: 01, what the public operations leave behind.
+-- Rules: 01, and 02, Q-3, what the public operations leave behind and answer.
 use Prim.Native.Nat.{ℕ}
 use mathlib.Core.Bool.{Bool, false, cond}
 use mathlib.Core.List.{List}
 use lib.ListN.{length, replicate}
 use Rattle.marks.specs.Rows.{noRows, allRows}
-use Rattle.pixels.specs.Run.{written, zeroed}
+use Rattle.pixels.specs.Run.{written, zeroed, noTotals}
+use Rattle.pixels.specs.declared.Totals.{Totals}
 use Rattle.lists.specs.Fixed.{places}
 use Rattle.lists.specs.Entries.{emptyRecord}
 use Rattle.lists.specs.Params.{noParams}
@@ -17,7 +18,7 @@ use Rattle.status.specs.Numbers.{unlessRefused}
 use Rattle.status.specs.Tests.{memoryRefusal}
 use Rattle.st7789.specs.Parts.{withController, withCfg, withPower, withMarks, withLogs}
 use Rattle.st7789.specs.Command.{begunAll, released}
-use Rattle.st7789.specs.Data.{dataIn, storesIn}
+use Rattle.st7789.specs.Data.{dataIn, storesIn, totalsIn}
 use Rattle.st7789.specs.Refusals.{transferRefusal, bareRefusal}
 use Rattle.st7789.specs.declared.PanelMemory.{PanelMemory}
 use Rattle.st7789.specs.declared.PanelMemory.the-variants.{Lent, Without}
@@ -32,7 +33,7 @@ freshController cfg =
       cfg = cfg;
       power = unpowered;
       chip = freshChip;
-      counts = record { commands = 0; «ramwr_count» = 0; «pixels_written» = 0; «dropped_params» = 0 };
+      counts = record { commands = 0; «ramwr_count» = 0; «pixels_written» = 0; «dropped_params» = 0; inverted = 0; unmapped = 0 };
       marks = noRows;
       logs = record { traced = 0; warned = 0; current = Current.Nothing };
     }
@@ -66,11 +67,19 @@ unfoldable pub transferMemory : Bool → List ℕ → List ℕ → St7789p3 → 
 transferMemory dc bytes memory s =
     unlessRefused (transferRefusal s (length memory) (length bytes)) (written memory (storesIn dc bytes (s .controller))) memory
 
+-- 02, Q-3: "a transfer shall answer its own three totals beside the state"; refused, it has none.
+unfoldable pub transferTotals : Bool → List ℕ → ℕ → St7789p3 → Totals
+transferTotals dc bytes cells s = unlessRefused (transferRefusal s cells (length bytes)) (totalsIn dc bytes (s .controller)) noTotals
+
 -- "a transfer without memory, whose state equals the full one's"
 unfoldable pub bareTransferred : ℕ → Bool → List ℕ → Bool → St7789p3 → St7789p3
 bareTransferred t dc bytes cs s = unlessRefused (bareRefusal s (length bytes)) (moved t dc bytes cs s) s
 
--- The one entry of both: the number, the state, and what is lent, which stays where no panel memory is.
+-- The totals of such a one.
+unfoldable pub bareTotals : Bool → List ℕ → St7789p3 → Totals
+bareTotals dc bytes s = unlessRefused (bareRefusal s (length bytes)) (totalsIn dc bytes (s .controller)) noTotals
+
+-- The one entry of both: the number, the state, the totals, and what is lent, which stays where no panel memory is.
 abbrev pub refusalWith : PanelMemory → St7789p3 → ℕ → ℕ → ℕ
 refusalWith Lent s cells bytes = transferRefusal s cells bytes
 refusalWith Without s cells bytes = bareRefusal s bytes
@@ -78,6 +87,10 @@ refusalWith Without s cells bytes = bareRefusal s bytes
 abbrev pub transferredWith : PanelMemory → ℕ → Bool → List ℕ → Bool → ℕ → St7789p3 → St7789p3
 transferredWith Lent t dc bytes cs cells s = transferred t dc bytes cs cells s
 transferredWith Without t dc bytes cs cells s = bareTransferred t dc bytes cs s
+
+abbrev pub totalsWith : PanelMemory → Bool → List ℕ → ℕ → St7789p3 → Totals
+totalsWith Lent dc bytes cells s = transferTotals dc bytes cells s
+totalsWith Without dc bytes cells s = bareTotals dc bytes s
 
 abbrev pub memoryWith : PanelMemory → Bool → List ℕ → List ℕ → St7789p3 → List ℕ
 memoryWith Lent dc bytes memory s = transferMemory dc bytes memory s

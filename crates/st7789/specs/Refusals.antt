@@ -71,10 +71,11 @@ pixelsHeld Nothing records = 0
 pixelsHeld (At i) records = getD records i noRecord .«pixel_bytes»
 
 -- What COUNT_HIGH looks at: "one of commands, ramwr_count, pixels_written, dropped_params, or the current trace record's pixel bytes",
--- which come in.
+-- which come in; and 02, Q-3: "COUNT_HIGH also looks at both", the inverted and the unmapped.
 abbrev pub counted : Controller → ℕ → List ℕ
 counted k held =
-    k .counts .commands ∷ k .counts .«ramwr_count» ∷ k .counts .«pixels_written» ∷ k .counts .«dropped_params» ∷ held ∷ []
+    k .counts .commands ∷ k .counts .«ramwr_count» ∷ k .counts .«pixels_written» ∷ k .counts .«dropped_params» ∷ k .counts .inverted
+    ∷ k .counts .unmapped ∷ held ∷ []
 
 -- The counts of a panel.
 abbrev pub countsOf : St7789p3 → List ℕ

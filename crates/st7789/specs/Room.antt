@@ -18,6 +18,8 @@ pub record Countable (n : ℕ) (k : Counts) : Type 0 where
   pub ramwrs : k .«ramwr_count» + n < 2 ^ 64
   pub pixels : k .«pixels_written» + n < 2 ^ 64
   pub dropped : k .«dropped_params» + n < 2 ^ 64
+  pub inverted : k .inverted + n < 2 ^ 64
+  pub unmapped : k .unmapped + n < 2 ^ 64
 
 -- The same of a panel, whose current record is one of the 128.
 pub record Room (n : ℕ) (s : St7789p3) : Type 0 where

@@ -4,16 +4,19 @@ ghost use mathlib.Core.Bool.{true};
 ghost use Prim.Native.Nat.{_+_, _^_, _<_};
 ghost use lib.ListN.{length};
 ghost use Rattle.pixels.specs.Run.{written};
-ghost use Rattle.st7789.specs.Data.{recordData, controllerData, storesIn};
+ghost use Rattle.st7789.specs.Data.{recordData, pixelsAdded, controllerData, storesIn, totalsIn};
 ghost use Rattle.st7789.specs.Places.{heldFor, ifCurrent, noCommand, commandIn};
 ghost use Rattle.st7789.specs.Room.{Countable};
 use crate::Controller;
+use crate::Counts;
+use crate::Drawn;
 use chip::InForce;
 use codes::Command;
 use codes::Kind;
 use lists::Current;
 use lists::Stored;
 use lists::TraceRecord;
+use pixels::Totals;
 
 // What stands for a command where there is none.
 fn no_command() -> Command
@@ -23,6 +26,20 @@ fn no_command() -> Command
         code: 0,
         kind: Kind::NoEffect,
         need: 0,
+    }
+}
+
+impl Counts {
+    // The pixels of a segment: stored or not, written; and by themselves those that vanished.
+    fn draw(mut self, totals: Totals) -> Counts
+        requires { ⌜ self .«pixels_written» + (totals .stored + totals .unmapped) < 2 ^ 64 ⌝ }
+        requires { ⌜ (self .inverted + totals .inverted < 2 ^ 64) × (self .unmapped + totals .unmapped < 2 ^ 64) ⌝ }
+        ensures { λ r. ⌜ r ≡ pixelsAdded (totals .stored + totals .unmapped) totals self ⌝ }
+    {
+        self.pixels_written = self.pixels_written + (totals.stored + totals.unmapped);
+        self.inverted = self.inverted + totals.inverted;
+        self.unmapped = self.unmapped + totals.unmapped;
+        self
     }
 }
 
@@ -88,9 +105,10 @@ impl Controller {
     }
 
     // Pixels in a run, parameters for the command in force, or lost.
-    pub(crate) fn data(mut self, command: Command, bytes: &[u8], memory: &mut [u16]) -> Controller
+    pub(crate) fn data(mut self, command: Command, bytes: &[u8], memory: &mut [u16]) -> Drawn
         requires { ⌜ (command ≡ commandIn self) × Countable (length (now bytes)) (self .counts) ⌝ }
-        ensures { λ r. ⌜ r ≡ controllerData (now (bytes .entry)) self ⌝ }
+        ensures { λ r. ⌜ r .controller ≡ controllerData (now (bytes .entry)) self ⌝ }
+        ensures { λ r. ⌜ r .totals ≡ totalsIn true (now (bytes .entry)) self ⌝ }
         ensures { λ r. ⌜ now (memory .exit) ≡ written (now (memory .entry)) (storesIn true (now (bytes .entry)) self) ⌝ }
     {
         let old_chip = self.chip;
@@ -99,18 +117,26 @@ impl Controller {
             let site = old_chip.site();
             let run = engine::write_pixels(site, old_chip.walk, self.marks, bytes, memory);
             let walk = run.walk;
+            let totals = run.totals;
             let marks = run.marks;
             let mut chip = old_chip;
             chip.walk = walk;
             self.chip = chip;
-            let pixels = self.counts.pixels_written + run.pixels;
-            self.counts.pixels_written = pixels;
+            let counts = self.counts.draw(totals);
+            self.counts = counts;
             self.marks = marks;
-            return self;
+            return Drawn {
+                controller: self,
+                totals,
+            };
         }
+        let totals = Totals::none();
         let cmd = decoder.cmd;
         match cmd {
-            InForce::Nothing => self,
+            InForce::Nothing => Drawn {
+                controller: self,
+                totals,
+            },
             InForce::Code(c) => {
                 let params = decoder.params;
                 let lost = params.excess(bytes.len());
@@ -118,7 +144,10 @@ impl Controller {
                 self.chip = chip;
                 let dropped = self.counts.dropped_params + lost;
                 self.counts.dropped_params = dropped;
-                self
+                Drawn {
+                    controller: self,
+                    totals,
+                }
             }
         }
     }

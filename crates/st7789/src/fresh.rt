@@ -34,6 +34,8 @@ impl Controller {
             ramwr_count: 0,
             pixels_written: 0,
             dropped_params: 0,
+            inverted: 0,
+            unmapped: 0,
         };
         let logs = Logs {
             traced: 0,

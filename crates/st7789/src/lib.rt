@@ -8,6 +8,7 @@ use lists::Stored;
 use lists::TraceRecord;
 use lists::Warning;
 use marks::Marks;
+use pixels::Totals;
 use status::Status;
 
 mod command;
@@ -23,6 +24,8 @@ pub struct Counts {
     pub ramwr_count: u64,
     pub pixels_written: u64,
     pub dropped_params: u64,
+    pub inverted: u64,
+    pub unmapped: u64,
 }
 
 // How many trace records and warnings are used, and which record is current.
@@ -56,6 +59,20 @@ pub enum PanelMemory {
     Without,
 }
 
+// What a data segment leaves of the controller, and the totals of its pixels.
+struct Drawn {
+    controller: Controller,
+    totals: Totals,
+}
+
+// What a transfer answers: the panel, how many of its own pixels went which way, and whether it was refused.
+pub struct Transferred {
+    pub panel: St7789p3,
+    pub totals: Totals,
+    pub status: Status,
+}
+
+// What is answered where a panel is made or reset.
 pub struct Answer {
     pub panel: St7789p3,
     pub status: Status,

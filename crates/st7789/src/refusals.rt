@@ -69,6 +69,8 @@ impl Controller {
             self.counts.ramwr_count,
             self.counts.pixels_written,
             self.counts.dropped_params,
+            self.counts.inverted,
+            self.counts.unmapped,
             logs.held(record.pixel_bytes),
         ];
         status::transfer_status(bad, cells, bytes, &counts)

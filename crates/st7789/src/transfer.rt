@@ -1,20 +1,21 @@
 // One SPI transaction. The one body that holds the lists: the tests, the segment, and every store in place.
 ghost use mathlib.Core.Path.{_≡_};
 ghost use lib.ListN.{length};
-ghost use Rattle.st7789.specs.Entries.{refusalWith, transferredWith, memoryWith};
+ghost use Rattle.st7789.specs.Entries.{refusalWith, transferredWith, totalsWith, memoryWith};
 ghost use Rattle.status.specs.Numbers.{number};
-use crate::Answer;
 use crate::PanelMemory;
 use crate::St7789p3;
+use crate::Transferred;
 use crate::command::begun_record;
 use lists::MAX_PARAMS;
 use lists::PLACES;
 use lists::Warning;
+use pixels::Totals;
 use status::accepted;
 
 impl St7789p3 {
     // With dc low each byte begins a command, with dc high the bytes are data. CS release comes last. Without panel memory nothing is
-    // stored to what is lent, and the state is the full transfer's.
+    // stored to what is lent, and the state and the totals are the full transfer's.
     pub fn transfer(
         mut self,
         t: u64,
@@ -23,9 +24,10 @@ impl St7789p3 {
         cs_release: bool,
         panel_memory: PanelMemory,
         memory: &mut [u16],
-    ) -> Answer
+    ) -> Transferred
         ensures refusal { λ r. ⌜ number (r .status) ≡ refusalWith «panel_memory» self (length (now (memory .entry))) (length (now (bytes .entry))) ⌝ }
         ensures answer { λ r. ⌜ r .panel ≡ transferredWith «panel_memory» t dc (now (bytes .entry)) «cs_release» (length (now (memory .entry))) self ⌝ }
+        ensures totals { λ r. ⌜ r .totals ≡ totalsWith «panel_memory» dc (now (bytes .entry)) (length (now (memory .entry))) self ⌝ }
         ensures lent { λ r. ⌜ now (memory .exit) ≡ memoryWith «panel_memory» dc (now (bytes .entry)) (now (memory .entry)) self ⌝ }
     {
         let mut controller = self.controller;
@@ -42,8 +44,9 @@ impl St7789p3 {
         let cells = panel_memory.cells(memory.len());
         let status = controller.judged(stored_long, long, record, cells, bytes.len());
         if !accepted(status) {
-            return Answer {
+            return Transferred {
                 panel: self,
+                totals: Totals::none(),
                 status,
             };
         }
@@ -52,7 +55,9 @@ impl St7789p3 {
             let place = command.place();
             let noted = controller.noted(record, bytes);
             let end = panel_memory.end(memory.len());
-            controller = controller.data(command, bytes, &mut memory[0..end]);
+            let drawn = controller.data(command, bytes, &mut memory[0..end]);
+            controller = drawn.controller;
+            let totals = drawn.totals;
             let list = controller.stored_list();
             controller = controller.release(cs_release);
             self.controller = controller;
@@ -60,8 +65,9 @@ impl St7789p3 {
             if place < 12 {
                 self.stored[place] = list;
             }
-            return Answer {
+            return Transferred {
                 panel: self,
+                totals,
                 status,
             };
         }
@@ -96,8 +102,9 @@ impl St7789p3 {
         }
         controller = controller.release(cs_release);
         self.controller = controller;
-        Answer {
+        Transferred {
             panel: self,
+            totals: Totals::none(),
             status,
         }
     }

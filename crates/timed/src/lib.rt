@@ -4,12 +4,13 @@ use board::Power;
 use chip::Registers;
 use marks::Marks;
 use marks::Span;
-use st7789::Answer;
+use pixels::Totals;
 use st7789::Controller;
 use st7789::Counts;
 use st7789::Logs;
 use st7789::PanelMemory;
 use st7789::St7789p3;
+use st7789::Transferred;
 use status::Status;
 use views::FrameView;
 
@@ -98,8 +99,9 @@ fn session(
     let rows = table.len() / 4;
     let cfg = PanelConfig::new(true);
     let panel = St7789p3::fresh(cfg);
-    let mut a = Answer {
+    let mut a = Transferred {
         panel,
+        totals: Totals::none(),
         status: Status::Ok,
     };
     let mut refused: u64 = 0;

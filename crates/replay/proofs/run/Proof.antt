@@ -17,8 +17,11 @@ abbrev μ-loop : tie.MeasureT-loop
 fresh-requires : tie.Need-fresh-requires Inv-loop μ-loop
 fresh-requires c κs = search needs
 
+none-requires : tie.Need-none-requires Inv-loop μ-loop
+none-requires c κs = search needs
+
 loop-holds : tie.Need-loop-holds Inv-loop μ-loop
-loop-holds c = running-first _ (c .fresh .ensures)
+loop-holds c = running-first _ (c .before .fresh .ensures)
 
 head-at-requires : tie.Need-head-at-requires Inv-loop μ-loop
 head-at-requires c κs = search needs
@@ -60,6 +63,7 @@ run-spec =
     Inv-loop
     μ-loop
     fresh-requires
+    none-requires
     loop-holds
     head-at-requires
     sub-transfer

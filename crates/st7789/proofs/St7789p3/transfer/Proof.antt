@@ -23,7 +23,7 @@ use Rattle.st7789.specs.Room.{Room}
 use Rattle.st7789.proofs.Tests.{scan-start, scan-on, refused, held-here, put-here}
 use Rattle.st7789.proofs.Accepted.{room, refusal-none, new-left, old-left}
 use Rattle.st7789.proofs.Commands.{within-both, record-put, record-full, Kept, kept-first, kept-next, kept-counts, kept-last, turn-first, turn-last, PanelTurn, part-room, part-quiet, panel-part}
-use Rattle.st7789.proofs.Moves.{end-within, moved-data, moved-commands, stored-data, stored-none, stored-put, stored-nowhere, data-put, answer-with}
+use Rattle.st7789.proofs.Moves.{end-within, moved-data, moved-commands, stored-data, stored-none, totals-commands, totals-data, stored-put, stored-nowhere, data-put, answer-with}
 use Rattle.st7789.proofs.St7789p3.transfer.Statement.{statement}
 use Rattle.st7789.proofs.St7789p3.transfer.Tie as tie
 
@@ -110,8 +110,12 @@ judged-requires c κs = search needs
 accepted-requires : tie.Need-accepted-requires Inv-loop μ-loop Inv-loop3 μ-loop3 Inv-loop2 μ-loop2
 accepted-requires c κs = search needs
 
+none-requires :
+    tie.Need-none-requires Inv-loop μ-loop Inv-loop3 μ-loop3 Inv-loop2 μ-loop2
+none-requires c κs = search needs
+
 returns : tie.Need-returns Inv-loop μ-loop Inv-loop3 μ-loop3 Inv-loop2 μ-loop2
-returns c = let a = c .before .before .before .before .before .before .before .before .before .before .before .before .before .before .args in let s = a .t1 in let e = told (c .before .before) in let o = c .before .accepted .ensures in let n = not-true (c .before .accepted .result) (c .if1 .taken) in answer-with (a .«panel-memory») (a .t) (a .dc) (a .bytes .now) (a .«cs-release») (a .memory .now) s e (old-left e o _ n) (old-left e o _ n)
+returns c = let a = c .before .before .before .before .before .before .before .before .before .before .before .before .before .before .before .args in let s = a .t1 in let e = told (c .before .before .before) in let o = c .before .before .accepted .ensures in let n = not-true (c .before .before .accepted .result) (c .before .if1 .taken) in answer-with (a .«panel-memory») (a .t) (a .dc) (a .bytes .now) (a .«cs-release») (a .memory .now) s e (old-left e o _ n) (c .none .ensures ∙ old-left e o _ n) (old-left e o _ n)
 
 command-requires : tie.Need-command-requires Inv-loop μ-loop Inv-loop3 μ-loop3 Inv-loop2 μ-loop2
 command-requires c κs = search needs
@@ -145,11 +149,11 @@ release-requires : tie.Need-release-requires Inv-loop μ-loop Inv-loop3 μ-loop3
 release-requires c κs = search needs
 
 mul-noted : tie.Need-mul-noted Inv-loop μ-loop Inv-loop3 μ-loop3 Inv-loop2 μ-loop2
-mul-noted c = omega (arith, c .before .before .before .before .before .before .before .before .before .before .before .before .before .before .before .before .place .ensures .1)
+mul-noted c = omega (arith, c .before .before .before .before .before .before .before .before .before .before .before .before .before .before .before .before .before .before .place .ensures .1)
 
 element-set-from-noted :
     tie.Need-element-set-from-noted Inv-loop μ-loop Inv-loop3 μ-loop3 Inv-loop2 μ-loop2
-element-set-from-noted c = omega (arith, c .before .before .before .before .before .before .before .before .before .before .before .before .before .before .before .before .place .ensures .1)
+element-set-from-noted c = omega (arith, c .before .before .before .before .before .before .before .before .before .before .before .before .before .before .before .before .before .before .place .ensures .1)
 
 mul-list : tie.Need-mul-list Inv-loop μ-loop Inv-loop3 μ-loop3 Inv-loop2 μ-loop2
 mul-list c = search needs
@@ -162,13 +166,13 @@ same-length : tie.Need-same-length Inv-loop μ-loop Inv-loop3 μ-loop3 Inv-loop2
 same-length c = search needs
 
 returns-2 : tie.Need-returns-2 Inv-loop μ-loop Inv-loop3 μ-loop3 Inv-loop2 μ-loop2
-returns-2 c = let a = c .before .before .before .before .before .before .before .before .before .before .before .before .before .before .before .before .before .before .before .before .before .before .before .before .before .before .args in let s = a .t1 in let e = told (c .before .before .before .before .before .before .before .before .before .before .before .before .before .before) in let o = c .before .before .before .before .before .before .before .before .before .before .before .before .before .accepted .ensures in let y = passed (c .before .before .before .before .before .before .before .before .before .before .before .before) in let d = c .before .before .before .before .before .«data» .ensures in answer-with (a .«panel-memory») (a .t) (a .dc) (a .bytes .now) (a .«cs-release») (a .memory .now) s e (new-left e o _ y (moved-data (a .t) (a .bytes .now) (a .«cs-release») s (c .before .before .before .before .before .before .before .before .before .before .before .if2 .taken) (data-put (a .bytes .now) s (d .0) (stored-put (a .bytes .now) (s .controller) (s .stored) (c .before .before .before .before .before .before .before .before .before .place2 .ensures ∙ ap (λ (m : Command). placeOf (m .kind)) (c .before .before .before .before .before .before .before .before .before .before .command .ensures)) (c .if3 .taken) (d .0) (c .before .before .stored-list .ensures)) (put-here (recordData (a .bytes .now) (s .controller)) (s .controller .logs .current) (s .records) _ _ (roomy (c .before .before .before .before .before .before .before .before .before .before .before .before) .current) (c .before .before .before .before .before .before .before .before .before .before .before .before .before .before .before .before .before .place .ensures .0) (c .before .before .before .before .before .before .before .before .noted .ensures))) (c .before .release .ensures))) (new-left e o _ y (stored-data (a .«panel-memory») (a .bytes .now) (a .memory .now) (s .controller) (c .before .before .before .before .before .before .before .end .ensures) (c .before .before .before .before .before .before .before .before .before .before .before .if2 .taken) (d .1)))
+returns-2 c = let a = c .before .before .before .before .before .before .before .before .before .before .before .before .before .before .before .before .before .before .before .before .before .before .before .before .before .before .before .before .args in let s = a .t1 in let e = told (c .before .before .before .before .before .before .before .before .before .before .before .before .before .before .before .before) in let o = c .before .before .before .before .before .before .before .before .before .before .before .before .before .before .before .accepted .ensures in let y = passed (c .before .before .before .before .before .before .before .before .before .before .before .before .before .before) in let d = c .before .before .before .before .before .before .before .«data» .ensures in answer-with (a .«panel-memory») (a .t) (a .dc) (a .bytes .now) (a .«cs-release») (a .memory .now) s e (new-left e o _ y (moved-data (a .t) (a .bytes .now) (a .«cs-release») s (c .before .before .before .before .before .before .before .before .before .before .before .before .before .if2 .taken) (data-put (a .bytes .now) s (d .0) (stored-put (a .bytes .now) (s .controller) (s .stored) (c .before .before .before .before .before .before .before .before .before .before .before .place2 .ensures ∙ ap (λ (m : Command). placeOf (m .kind)) (c .before .before .before .before .before .before .before .before .before .before .before .before .command .ensures)) (c .if3 .taken) (d .0) (c .before .before .stored-list .ensures)) (put-here (recordData (a .bytes .now) (s .controller)) (s .controller .logs .current) (s .records) _ _ (roomy (c .before .before .before .before .before .before .before .before .before .before .before .before .before .before) .current) (c .before .before .before .before .before .before .before .before .before .before .before .before .before .before .before .before .before .before .before .place .ensures .0) (c .before .before .before .before .before .before .before .before .before .before .noted .ensures))) (c .before .release .ensures))) (new-left e o _ y (totals-data (a .bytes .now) (s .controller) (c .before .before .before .before .before .before .before .before .before .before .before .before .before .if2 .taken) (d .1 .0))) (new-left e o _ y (stored-data (a .«panel-memory») (a .bytes .now) (a .memory .now) (s .controller) (c .before .before .before .before .before .before .before .before .before .end .ensures) (c .before .before .before .before .before .before .before .before .before .before .before .before .before .if2 .taken) (d .1 .1)))
 
 same-length-2 : tie.Need-same-length-2 Inv-loop μ-loop Inv-loop3 μ-loop3 Inv-loop2 μ-loop2
 same-length-2 c = search needs
 
 returns-3 : tie.Need-returns-3 Inv-loop μ-loop Inv-loop3 μ-loop3 Inv-loop2 μ-loop2
-returns-3 c = let a = c .before .before .before .before .before .before .before .before .before .before .before .before .before .before .before .before .before .before .before .before .before .before .before .before .before .before .args in let s = a .t1 in let e = told (c .before .before .before .before .before .before .before .before .before .before .before .before .before .before) in let o = c .before .before .before .before .before .before .before .before .before .before .before .before .before .accepted .ensures in let y = passed (c .before .before .before .before .before .before .before .before .before .before .before .before) in let d = c .before .before .before .before .before .«data» .ensures in answer-with (a .«panel-memory») (a .t) (a .dc) (a .bytes .now) (a .«cs-release») (a .memory .now) s e (new-left e o _ y (moved-data (a .t) (a .bytes .now) (a .«cs-release») s (c .before .before .before .before .before .before .before .before .before .before .before .if2 .taken) (data-put (a .bytes .now) s (d .0) (stored-nowhere (a .bytes .now) (s .controller) (s .stored) (c .before .before .before .before .before .before .before .before .before .place2 .ensures ∙ ap (λ (m : Command). placeOf (m .kind)) (c .before .before .before .before .before .before .before .before .before .before .command .ensures)) (c .if3 .left)) (put-here (recordData (a .bytes .now) (s .controller)) (s .controller .logs .current) (s .records) _ _ (roomy (c .before .before .before .before .before .before .before .before .before .before .before .before) .current) (c .before .before .before .before .before .before .before .before .before .before .before .before .before .before .before .before .before .place .ensures .0) (c .before .before .before .before .before .before .before .before .noted .ensures))) (c .before .release .ensures))) (new-left e o _ y (stored-data (a .«panel-memory») (a .bytes .now) (a .memory .now) (s .controller) (c .before .before .before .before .before .before .before .end .ensures) (c .before .before .before .before .before .before .before .before .before .before .before .if2 .taken) (d .1)))
+returns-3 c = let a = c .before .before .before .before .before .before .before .before .before .before .before .before .before .before .before .before .before .before .before .before .before .before .before .before .before .before .before .before .args in let s = a .t1 in let e = told (c .before .before .before .before .before .before .before .before .before .before .before .before .before .before .before .before) in let o = c .before .before .before .before .before .before .before .before .before .before .before .before .before .before .before .accepted .ensures in let y = passed (c .before .before .before .before .before .before .before .before .before .before .before .before .before .before) in let d = c .before .before .before .before .before .before .before .«data» .ensures in answer-with (a .«panel-memory») (a .t) (a .dc) (a .bytes .now) (a .«cs-release») (a .memory .now) s e (new-left e o _ y (moved-data (a .t) (a .bytes .now) (a .«cs-release») s (c .before .before .before .before .before .before .before .before .before .before .before .before .before .if2 .taken) (data-put (a .bytes .now) s (d .0) (stored-nowhere (a .bytes .now) (s .controller) (s .stored) (c .before .before .before .before .before .before .before .before .before .before .before .place2 .ensures ∙ ap (λ (m : Command). placeOf (m .kind)) (c .before .before .before .before .before .before .before .before .before .before .before .before .command .ensures)) (c .if3 .left)) (put-here (recordData (a .bytes .now) (s .controller)) (s .controller .logs .current) (s .records) _ _ (roomy (c .before .before .before .before .before .before .before .before .before .before .before .before .before .before) .current) (c .before .before .before .before .before .before .before .before .before .before .before .before .before .before .before .before .before .before .before .place .ensures .0) (c .before .before .before .before .before .before .before .before .before .before .noted .ensures))) (c .before .release .ensures))) (new-left e o _ y (totals-data (a .bytes .now) (s .controller) (c .before .before .before .before .before .before .before .before .before .before .before .before .before .if2 .taken) (d .1 .0))) (new-left e o _ y (stored-data (a .«panel-memory») (a .bytes .now) (a .memory .now) (s .controller) (c .before .before .before .before .before .before .before .before .before .end .ensures) (c .before .before .before .before .before .before .before .before .before .before .before .before .before .if2 .taken) (d .1 .1)))
 
 table-requires : tie.Need-table-requires Inv-loop μ-loop Inv-loop3 μ-loop3 Inv-loop2 μ-loop2
 table-requires c κs = search needs
@@ -284,17 +288,22 @@ release-requires-2 :
     tie.Need-release-requires-2 Inv-loop μ-loop Inv-loop3 μ-loop3 Inv-loop2 μ-loop2
 release-requires-2 c κs = search needs
 
+none-requires-2 :
+    tie.Need-none-requires-2 Inv-loop μ-loop Inv-loop3 μ-loop3 Inv-loop2 μ-loop2
+none-requires-2 c κs = search needs
+
 returns-4 : tie.Need-returns-4 Inv-loop μ-loop Inv-loop3 μ-loop3 Inv-loop2 μ-loop2
 returns-4 c =
-    let a = c .before .before .before .before .before .before .before .before .before .before .before .before .before .before .before .before .before .before .before .args in
+    let a = c .before .before .before .before .before .before .before .before .before .before .before .before .before .before .before .before .before .before .before .before .args in
     let s = a .t1 in
-    let e = told (c .before .before .before .before .before .before .before) in
-    let o = c .before .before .before .before .before .before .accepted .ensures in
-    let y = passed (c .before .before .before .before .before) in
-    let commands = c .before .before .before .before .if2 .left in
+    let e = told (c .before .before .before .before .before .before .before .before) in
+    let o = c .before .before .before .before .before .before .before .accepted .ensures in
+    let y = passed (c .before .before .before .before .before .before) in
+    let commands = c .before .before .before .before .before .if2 .left in
     answer-with (a .«panel-memory») (a .t) (a .dc) (a .bytes .now) (a .«cs-release») (a .memory .now) s e
     (new-left e o _ y
-    (moved-commands (a .t) (a .bytes .now) (a .«cs-release») s commands (turn-last (c .before .before .loop2 .inv) (c .before .loop2-test .left)) (c .release2 .ensures)))
+    (moved-commands (a .t) (a .bytes .now) (a .«cs-release») s commands (turn-last (c .before .before .before .loop2 .inv) (c .before .before .loop2-test .left)) (c .before .release2 .ensures)))
+    (new-left e o _ y (totals-commands (a .bytes .now) (s .controller) commands (c .none2 .ensures)))
     (new-left e o _ y (stored-none (a .«panel-memory») (a .bytes .now) (a .memory .now) (s .controller) commands))
 
 pub transfer-spec : {M : Type 1} → statement M
@@ -321,6 +330,7 @@ transfer-spec =
     cells-requires
     judged-requires
     accepted-requires
+    none-requires
     returns
     command-requires
     place-requires-2
@@ -369,4 +379,5 @@ transfer-spec =
     loop2-less-2
     loop2-again-2
     release-requires-2
+    none-requires-2
     returns-4)

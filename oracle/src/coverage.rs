@@ -4,7 +4,7 @@ use std::collections::{BTreeMap, BTreeSet};
 
 use crate::profile::Profile;
 use crate::refusals::{bad_clauses, high_counts};
-use crate::report::{above_full, line, rule_of};
+use crate::report::{above_full, bit, line, rule_of};
 use crate::st7789::reach::hidden;
 use crate::st7789::{MAX_PARAMS, STORED_COMMANDS, St7789p3, TRACE_LIMIT};
 use crate::totals::{Lost, Totals};
@@ -85,7 +85,7 @@ impl Coverage {
             return;
         }
         let call = text(words[0]);
-        if ["transfer", "bare", "totals", "publish"].contains(&call.as_str()) {
+        if ["transfer", "bare", "publish"].contains(&call.as_str()) {
             for clause in bad_clauses(panel) {
                 self.met.insert(format!("{call} bad state: {clause}"));
             }
@@ -158,6 +158,10 @@ impl Coverage {
             "boot" if printed[1] == "ok" => "ok".to_string(),
             "boot" => format!("{} {}", printed[1], printed[2] == "none"),
             "take-warnings" => printed[1].to_string(),
+            "totals" => printed[1..]
+                .iter()
+                .map(|n| bit(*n != "0").to_string())
+                .collect(),
             _ => String::new(),
         };
         // Of a span only its kind counts, and of the flags each one alone.
@@ -264,7 +268,6 @@ impl Coverage {
             _ => 3,
         };
         self.outcomes[of] += 1;
-        self.meet(|| format!("outcomes {of}"));
     }
 
     /// What a transfer meets, by the state before it.

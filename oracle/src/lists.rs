@@ -32,7 +32,8 @@ prints which marks were not passed.
 ";
 
 /// How many cases each list gets before those of lists/added, and the longest generated ones.
-const CASES: usize = 300;
+const LOGS: usize = 300;
+const SCRIPTS: usize = 320;
 const LOG_LIMIT: usize = 800;
 const SCRIPT_LIMIT: usize = 1200;
 
@@ -119,7 +120,7 @@ fn chosen(kind: Kind) -> io::Result<(Vec<Case>, usize)> {
     // Always the case with the most that is still wanted for its cost, the first of equals.
     let mut wanted = 1;
     met.resize(names.len(), 0);
-    while cases.len() < CASES && wanted <= WANTED {
+    while cases.len() < most(kind) && wanted <= WANTED {
         let worth = |(_, things, cost): &(Case, Vec<usize>, usize)| {
             let new = things.iter().filter(|thing| met[**thing] < wanted);
             new.count() * 100_000 / cost
@@ -150,6 +151,13 @@ fn count(met: &mut Vec<u32>, thing: usize) {
         met.resize(thing + 1, 0);
     }
     met[thing] += 1;
+}
+
+fn most(kind: Kind) -> usize {
+    match kind {
+        Kind::Log => LOGS,
+        Kind::Script => SCRIPTS,
+    }
 }
 
 fn limit(kind: Kind) -> usize {

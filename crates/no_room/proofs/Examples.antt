@@ -18,7 +18,7 @@ use Rattle.light.specs.Light.{dimmed}
 use Rattle.st7789.specs.declared.St7789p3.{St7789p3}
 use Rattle.laws.proofs.Answers.{answers-cut}
 use Rattle.no_room.specs.Panels.{Call, Panel, fresh, after}
-use Rattle.no_room.specs.Examples.{rows, allPass, timed, allWarn, totals, counted, answersBy, answersFrom, flushing}
+use Rattle.no_room.specs.Examples.{rows, allPass, timed, allWarn, outcomes, totalled, answersBy, answersFrom, flushing}
 use Rattle.no_room.specs.Kept.{Transfer, KeepsTransfer, leftBy, Dim, KeepsDim}
 use Rattle.no_room.proofs.Model.{model}
 use Rattle.no_room.proofs.Kept.{as-promised, dim-as-promised}
@@ -38,8 +38,8 @@ pub all-warned-by : (f : Transfer) → KeepsTransfer f → allWarn (leftBy f) ti
 all-warned-by f keeps = ap (λ make. allWarn make timed) (as-promised f keeps) ∙ all-warn
 
 -- The totals of Q-3's rows.
-pub all-answer : map (λ r. answersFrom (fresh .state) (r .calls)) counted ≡ map (λ r. r .answers) counted
-unfolding counted model
+pub all-answer : map (λ r. answersFrom (fresh .state) (r .calls)) totalled ≡ map (λ r. r .answers) totalled
+unfolding totalled model
 all-answer = refl
 
 module _ (f : Transfer) (keeps : KeepsTransfer f) where
@@ -64,26 +64,26 @@ module _ (f : Transfer) (keeps : KeepsTransfer f) where
       keeps p c .1 .0 ∙ ap (λ n. transferred (c .time) (c .dc) (c .bytes) (c .release) n (p .state)) long in
       ap₂ _∷_ head (answers-kept (leftBy f p c) cs (left-long p c ∙ long) ∙ ap (λ s. answersFrom s cs) left)
 
-  pub all-answered-by : map (λ r. answersBy (leftBy f) told fresh (r .calls)) counted ≡ map (λ r. r .answers) counted
-  all-answered-by = ap (λ g. map g counted) (λ i r. answers-kept fresh (r .calls) (length-replicate {A = ℕ} 76800 0) i) ∙ all-answer
+  pub all-answered-by : map (λ r. answersBy (leftBy f) told fresh (r .calls)) totalled ≡ map (λ r. r .answers) totalled
+  all-answered-by = ap (λ g. map g totalled) (λ i r. answers-kept fresh (r .calls) (length-replicate {A = ℕ} 76800 0) i) ∙ all-answer
 
 -- A full flush stores all of the panel's pixels, whatever their colours; and so in all where it is cut into transfers.
 module _ (bytes : List ℕ) (full : length bytes ≡ 153600) where
-  pub full-flush : totalsIn true bytes (flushing .state .controller) ≡ totals 76800 0 0
+  pub full-flush : totalsIn true bytes (flushing .state .controller) ≡ outcomes 76800 0 0
   unfolding model
   full-flush =
       on-panel-stored (record { window = record { xs = 0; xe = 239; ys = 0; ye = 319 }; madctl = 0 })
       (record { upright = refl; xs = omega arith; xe = omega arith; ys = omega arith; ye = omega arith })
       (record { pointer = record { x = 0; y = 0 }; carry = Empty })
       bytes (record { x = omega arith; y = omega arith })
-      ∙ ap (λ n. totals n 0 0) (half-complete bytes ∙ ap (λ n. n / 2) full)
+      ∙ ap (λ n. outcomes n 0 0) (half-complete bytes ∙ ap (λ n. n / 2) full)
 
   pub flush-in-parts :
       (a b c : List ℕ) → a ++ (b ++ c) ≡ bytes →
       let s : St7789p3 = flushing .state in
       let t : St7789p3 = dataIn a s in
       let u : St7789p3 = dataIn b t in
-      added (totalsIn true a (s .controller)) (added (totalsIn true b (t .controller)) (totalsIn true c (u .controller))) ≡ totals 76800 0 0
+      added (totalsIn true a (s .controller)) (added (totalsIn true b (t .controller)) (totalsIn true c (u .controller))) ≡ outcomes 76800 0 0
   flush-in-parts a b c e =
       sym (ap (added (totalsIn true a (flushing .state .controller))) (answers-cut b c (dataIn a (flushing .state))))
       ∙ sym (answers-cut a (b ++ c) (flushing .state))

@@ -180,12 +180,13 @@ timed =
     ∷ []
 
 -- A row of Q-3's table: the transfers, and the totals that each of them answers.
-pub record Counted : Type 0 where
+pub record Totalled : Type 0 where
   pub calls : List Call
   pub answers : List Totals
 
-abbrev pub totals : ℕ → ℕ → ℕ → Totals
-totals stored inverted unmapped = record { stored = stored; inverted = inverted; unmapped = unmapped }
+-- Totals by their numbers.
+abbrev pub outcomes : ℕ → ℕ → ℕ → Totals
+outcomes stored inverted unmapped = record { stored = stored; inverted = inverted; unmapped = unmapped }
 
 -- What calls answer in turn, for a way to make one and for what it answers.
 abbrev pub answersBy : (Panel → Call → Panel) → (Panel → Call → Totals) → Panel → List Call → List Totals
@@ -200,12 +201,12 @@ answersFrom s (c ∷ calls) =
 
 -- Q-3: "Each pixel's outcome shall be named stored, inverted or unmapped, the run shall add them up, and a transfer shall answer its own
 -- three totals"
-unfoldable pub counted : List Counted
-counted =
+unfoldable pub totalled : List Totalled
+totalled =
     -- P3, an inverted window: one inverted; its commands and their parameters answer none
     record {
       calls = command 0x2A ∷ segment (0x00 ∷ 0x05 ∷ 0x00 ∷ 0x04 ∷ []) ∷ command 0x2C ∷ segment (0xF8 ∷ 0x00 ∷ []) ∷ [];
-      answers = totals 0 0 0 ∷ totals 0 0 0 ∷ totals 0 0 0 ∷ totals 0 1 0 ∷ [];
+      answers = outcomes 0 0 0 ∷ outcomes 0 0 0 ∷ outcomes 0 0 0 ∷ outcomes 0 1 0 ∷ [];
     }
     -- P7, rows past the panel's: one unmapped
     ∷ record {
@@ -217,22 +218,22 @@ counted =
           ∷ command 0x2C
           ∷ segment (0xF8 ∷ 0x00 ∷ [])
           ∷ [];
-      answers = replicate 5 (totals 0 0 0) ++ (totals 0 0 1 ∷ []);
+      answers = replicate 5 (outcomes 0 0 0) ++ (outcomes 0 0 1 ∷ []);
     }
     -- a pixel cut over two transfers: none, then one stored
     ∷ record {
       calls = command 0x2C ∷ segment (0xF8 ∷ []) ∷ segment (0x00 ∷ []) ∷ [];
-      answers = totals 0 0 0 ∷ totals 0 0 0 ∷ totals 1 0 0 ∷ [];
+      answers = outcomes 0 0 0 ∷ outcomes 0 0 0 ∷ outcomes 1 0 0 ∷ [];
     }
     -- data outside a run, and after a CS release
     ∷ record {
       calls = segment (0xF8 ∷ 0x00 ∷ []) ∷ command 0x2C ∷ lastSegment (0xF8 ∷ 0x00 ∷ []) ∷ segment (0xF8 ∷ 0x00 ∷ []) ∷ [];
-      answers = totals 0 0 0 ∷ totals 0 0 0 ∷ totals 1 0 0 ∷ totals 0 0 0 ∷ [];
+      answers = outcomes 0 0 0 ∷ outcomes 0 0 0 ∷ outcomes 1 0 0 ∷ outcomes 0 0 0 ∷ [];
     }
     -- the full window under MV, 320 by 240, and then MV off: of a row of 320 pixels 240 map
     ∷ record {
       calls = command 0x36 ∷ segment (0x20 ∷ []) ∷ command 0x01 ∷ command 0x36 ∷ segment (0x00 ∷ []) ∷ command 0x2C ∷ segment (replicate 640 0xF8) ∷ [];
-      answers = replicate 6 (totals 0 0 0) ++ (totals 240 0 80 ∷ []);
+      answers = replicate 6 (outcomes 0 0 0) ++ (outcomes 240 0 80 ∷ []);
     }
     -- its right half, columns 160 to 319, set under MV: half of it maps
     ∷ record {
@@ -246,7 +247,7 @@ counted =
           ∷ command 0x2C
           ∷ segment (replicate 640 0xF8)
           ∷ [];
-      answers = replicate 7 (totals 0 0 0) ++ (totals 160 0 160 ∷ []);
+      answers = replicate 7 (outcomes 0 0 0) ++ (outcomes 160 0 160 ∷ []);
     }
     ∷ []
 

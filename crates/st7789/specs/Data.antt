@@ -80,7 +80,7 @@ ran bytes k =
     -- "pairs form pixels, high byte first, an odd byte waits as carry."
     let w : Walked = walkOver k bytes in
     let a : Controller = withChip (walkedChip (w .walk) (k .chip)) k in
-    -- "Stored or not, pixels_written + 1", and those that vanish by themselves
+    -- "Stored or not, pixels_written + 1"; and by cause those that vanish
     let b : Controller = withCounts (pixelsAdded (chipCounted (k .chip) bytes) (chipTotals (k .chip) bytes) (a .counts)) a in
     -- "a stored pixel widens the dirty span by its row"
     withMarks (w .marks) b

@@ -30,7 +30,7 @@ fn no_command() -> Command
 }
 
 impl Counts {
-    // The pixels of a segment: stored or not, written; and by themselves those that vanished.
+    // The pixels of a segment: stored or unmapped they count as written, and those that vanished count by cause as well.
     fn draw(mut self, totals: Totals) -> Counts
         requires { ⌜ self .«pixels_written» + (totals .stored + totals .unmapped) < 2 ^ 64 ⌝ }
         requires { ⌜ (self .inverted + totals .inverted < 2 ^ 64) × (self .unmapped + totals .unmapped < 2 ^ 64) ⌝ }

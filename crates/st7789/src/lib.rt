@@ -19,6 +19,7 @@ mod refusals;
 mod switches;
 mod transfer;
 
+// What was counted since the panel was fresh; the last two are pixels that vanished, in an inverted window and where no cell was.
 pub struct Counts {
     pub commands: u64,
     pub ramwr_count: u64,

@@ -25,7 +25,7 @@ use Rattle.st7789.specs.declared.PanelMemory.the-variants.{Lent, Without}
 use Rattle.st7789.specs.declared.Controller.{Controller}
 use Rattle.st7789.specs.declared.St7789p3.{St7789p3}
 use Rattle.laws.specs.Answered.{Answered}
-use Rattle.laws.proofs.DataKinds.{dataBy, data-by, by-kind}
+use Rattle.laws.proofs.DataKinds.{dataBy, by-kind}
 
 -- Commands write no pixel and drop no parameter.
 pub begun-others : (t : ℕ) (bytes : List ℕ) (s : St7789p3) →

@@ -1,4 +1,4 @@
--- Sentences of 01 that say what does not happen, and those of Q-14 on the reset's time, each as a law.
+-- Sentences of 01 that say what does not happen, those of Q-14 on the reset's time, and what a reset leaves of Q-3's counts, each as a law.
 use Prim.Native.Nat.{ℕ}
 use mathlib.Core.Path.{_≡_, refl}
 use mathlib.Core.Bool.{Bool, true, false}
@@ -74,3 +74,9 @@ release-remembers s = refl
 pub rail-forgets : (s : St7789p3) → railReset true s .controller .chip .times .swreset ≡ Moment.Never
 unfolding emptyLists freshController freshChip
 rail-forgets s = refl
+
+-- Q-3: "Two new counts, inverted and unmapped, join the state." A SWRESET keeps them (`swreset-keeps`), the board rail begins anew.
+pub rail-uncounted :
+    (s : St7789p3) → (railReset true s .controller .counts .inverted ≡ 0) × (railReset true s .controller .counts .unmapped ≡ 0)
+unfolding emptyLists freshController
+rail-uncounted s = (refl, refl)

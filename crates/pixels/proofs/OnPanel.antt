@@ -1,8 +1,8 @@
 -- A window that lies on the panel loses no pixel, so a flush of it is stored whole.
-use Prim.Native.Nat.{ℕ, _+_, _*_, _/_, _≤_, _<_}
-use mathlib.Core.Path.{_≡_, refl, sym, ap, _∙_}
+use Prim.Native.Nat.{ℕ, _+_, _/_, _≤_}
+use mathlib.Core.Path.{_≡_, refl, _∙_}
 use mathlib.Core.Bool.{Bool, true, false, cond}
-use mathlib.Core.List.{List, [], _∷_, _++_}
+use mathlib.Core.List.{List, [], _∷_}
 use native.Mathlib.Omega.{arith}
 use borrow.Author.Tests.{lt-ltb, ltb-true, leb-false}
 use lib.Dec.{ltb, leb}
@@ -11,7 +11,6 @@ use Rattle.geometry.specs.Place.{has, largestColumn, largestRow, cellAt, mapOf,
 use Rattle.geometry.specs.declared.Pointer.{Pointer}
 use Rattle.geometry.specs.declared.Site.{Site}
 use Rattle.pixels.specs.declared.Carry.the-variants.{Empty}
-use Rattle.pixels.specs.declared.Totals.{Totals}
 use Rattle.pixels.specs.declared.Walk.{Walk}
 use Rattle.pixels.specs.Bytes.{arrival, pixelsOf}
 use Rattle.pixels.specs.Run.{onward, storeOf, storesOf, totalsOf, totals}

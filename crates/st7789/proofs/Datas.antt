@@ -16,7 +16,7 @@ use Rattle.codes.specs.Codes.{commandOf}
 use Rattle.codes.specs.declared.Command.{Command}
 use Rattle.lists.specs.Params.{excess}
 use Rattle.chip.specs.Apply.{chipTaken}
-use Rattle.chip.specs.Site.{siteOf, chipStores, chipCounted, chipTotals}
+use Rattle.chip.specs.Site.{siteOf, chipStores, chipTotals}
 use Rattle.chip.specs.declared.InForce.{InForce}
 use Rattle.chip.specs.declared.InForce.the-variants.{Code}
 use Rattle.chip.specs.declared.Chip.{Chip}

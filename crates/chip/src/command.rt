@@ -11,9 +11,10 @@ use crate::window::applied_window;
 use crate::window::begun_window;
 use crate::window::full_window;
 use codes::Command;
+use formats::Carry;
+use formats::in_force::format_of;
 use geometry::Pointer;
 use geometry::Site;
-use pixels::Carry;
 use pixels::Walk;
 use timing::Times;
 
@@ -47,14 +48,17 @@ impl Chip {
         }
     }
 
-    // Where its pixels go.
-    pub fn site(self) -> Site
-        ensures answer { λ r. ⌜ r ≡ siteOf self ⌝ }
+    // Where its pixels go, and the format in which they come.
+    pub fn site(self, formats: bool) -> Site
+        ensures answer { λ r. ⌜ r ≡ siteOf formats self ⌝ }
     {
         let window = self.window;
+        let registers = self.registers;
+        let format = format_of(formats, registers.colmod, registers.ramctrl1);
         Site {
             window,
-            madctl: self.registers.madctl,
+            madctl: registers.madctl,
+            format,
         }
     }
 

@@ -3,9 +3,9 @@ ghost use mathlib.Core.Path.{_≡_};
 ghost use Rattle.chip.specs.Begin.{walkBegun, walkReset};
 ghost use Rattle.geometry.specs.declared.Window.{Window};
 use codes::Kind;
+use formats::Carry;
 use geometry::Pointer;
 use geometry::Window;
-use pixels::Carry;
 use pixels::Walk;
 
 // The same carry, made anew: a copy would go through memory at each command.
@@ -14,7 +14,8 @@ fn anew(carry: Carry) -> Carry
 {
     match carry {
         Carry::Empty => Carry::Empty,
-        Carry::High(byte) => Carry::High(byte),
+        Carry::One(a) => Carry::One(a),
+        Carry::Two(a, b) => Carry::Two(a, b),
     }
 }
 

@@ -5,9 +5,9 @@ ghost use Rattle.chip.specs.Begin.{fullWindow, windowBegun};
 ghost use Rattle.chip.specs.Apply.{numberAt, windowApplied};
 use crate::decoding::byte_at;
 use codes::Kind;
+use formats::bytewise::joined;
 use geometry::Window;
 use lists::Params;
-use pixels::bytewise::joined;
 
 pub(crate) fn full_window(madctl: u8) -> Window
     ensures { λ r. ⌜ r ≡ fullWindow madctl ⌝ }

@@ -1,18 +1,19 @@
 -- The two hosts of the instance meet every premise of demand 3, by computing their calls.
 use mathlib.Core.Path.{_≡_, refl}
-use mathlib.Core.Bool.{Bool, true, _&&_}
+use mathlib.Core.Bool.{Bool, true, false, _&&_}
 use mathlib.Core.List.{List, [], _∷_}
 use borrow.Author.Tests.{eqb-true}
 use lib.Dec.{eqb}
+use Rattle.formats.specs.Bytes.{arrival}
 use Rattle.geometry.specs.Place.{mapOf, outcome, next}
 use Rattle.marks.specs.Rows.{noRows, allRows, mark, spanOf, marksBad}
-use Rattle.pixels.specs.Bytes.{arrival}
 use Rattle.pixels.specs.Run.{stores, walkAfter, pixelsCounted, totalsOf}
 use Rattle.codes.specs.Codes.{kindOf, needOf}
 use Rattle.lists.proofs.Bools.{both}
 use Rattle.lists.specs.Params.{filled, differ}
 use Rattle.timing.specs.Lint.{brokenBy, timesAfter}
-use Rattle.board.specs.Board.{switchedTo}
+use Rattle.board.specs.Board.{switchedTo, formatsSet}
+use Rattle.board.specs.declared.PanelConfig.{PanelConfig}
 use Rattle.chip.specs.Begin.{freshChip, chipBegun, chipReleased}
 use Rattle.chip.specs.Apply.{appliedIfDue, chipTaken}
 use Rattle.st7789.specs.Command.{begun, controllerReleased}
@@ -54,22 +55,25 @@ unfoldable opened : Bool
 unfolding kindOf needOf mapOf outcome next noRows allRows mark spanOf marksBad arrival stores walkAfter pixelsCounted totalsOf filled differ brokenBy timesAfter freshChip chipBegun chipReleased appliedIfDue chipTaken begun controllerReleased ran taken dataIn badState transferRefusal freshController emptyLists moved transferred transferMemory resetState resetMemory publishRefusal published publishedFrame refusal step
 opened = true
 
--- Both panels have the switch on.
-abbrev shown : Host
-shown = freshHost (switchedTo true)
+-- Both panels have the switch on; in one instance pixels come in 16 bits, in another in the 18 that a fresh COLMOD names.
+abbrev shown : Bool → PanelConfig
+shown formats = formatsSet formats (switchedTo true)
 
-first-passes : passes shown first ≡ true
+first-passes : (formats : Bool) → passes (freshHost (shown formats)) first ≡ true
 unfolding opened
-first-passes = refl
+first-passes true = refl
+first-passes false = refl
 
-second-passes : passes shown second ≡ true
+second-passes : (formats : Bool) → passes (freshHost (shown formats)) second ≡ true
 unfolding opened
-second-passes = refl
+second-passes true = refl
+second-passes false = refl
 
-pub first-and-second : Demand3 defined defined (switchedTo true) first second
-first-and-second =
-    two-hosts (switchedTo true) plan first second first-makes second-makes (passed shown first first-passes) (passed shown second second-passes)
+pub first-and-second : (formats : Bool) → Demand3 defined defined (shown formats) first second
+first-and-second formats =
+    two-hosts (shown formats) plan first second first-makes second-makes
+    (passed (freshHost (shown formats)) first (first-passes formats)) (passed (freshHost (shown formats)) second (second-passes formats))
 
-second-left : leftOver (run defined shown second) ≡ true
+second-left : leftOver (run defined (freshHost (shown false)) second) ≡ true
 unfolding opened
 second-left = refl

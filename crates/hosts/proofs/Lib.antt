@@ -9,3 +9,4 @@ pub mod Moments
 pub mod Hosts
 pub mod Instance
 pub mod Profiles
+pub mod Former

@@ -23,10 +23,10 @@ use Rattle.st7789.specs.declared.PanelMemory.the-variants.{Lent, Without}
 use Rattle.st7789.specs.declared.Controller.{Controller}
 use Rattle.st7789.specs.declared.St7789p3.{St7789p3}
 use Rattle.laws.specs.Valid.{Good}
-use Rattle.laws.specs.Profiles.{unwarned, ofThree, ProfilesAgree}
+use Rattle.laws.specs.Profiles.{chosen, unwarned, ofThree, ProfilesAgree}
 use Rattle.laws.proofs.Marks.{unmarked}
 use Rattle.laws.proofs.Plain.{transferred-before}
-use Rattle.laws.proofs.Profiles.{Beside, Leaves, left-beside, refusal-beside, transferred-beside, lent-beside, totals-beside, transferred-profile}
+use Rattle.laws.proofs.Profiles.{Beside, Leaves, left-beside, refusal-beside, transferred-beside, lent-beside, totals-beside, transferred-chosen}
 use Rattle.laws.proofs.Reach.{fresh-good, unmarked-good, marked-good, taken-warnings-good, rail-good}
 use Rattle.views.specs.Views.{lightOf, pixelSeen, frameSeen}
 use Rattle.publishing.specs.Publish.{publishRefusal, published, publishedSpan, publishedFlags, publishedFrame, spanCopied, flagsOf, noFlags}
@@ -61,11 +61,11 @@ module _ (p s : St7789p3) (w : Beside p s) where
         trace = ap (λ (r : St7789p3). used (traceOf r)) (w .agree .rest);
       }
 
--- What is set leaves the warnings and the profile alone, and reads neither.
+-- What is set leaves the warnings alone and what was chosen, and reads neither.
 settled-leaves : (x : Setting) (s : St7789p3) → Leaves s (panelSettled x s)
-settled-leaves (power on) s = record { warned = refl; warnings = refl; profile = refl }
-settled-leaves (shows on) s = record { warned = refl; warnings = refl; profile = refl }
-settled-leaves (brightness level scale duty) s = record { warned = refl; warnings = refl; profile = refl }
+settled-leaves (power on) s = record { warned = refl; warnings = refl; kept = refl }
+settled-leaves (shows on) s = record { warned = refl; warnings = refl; kept = refl }
+settled-leaves (brightness level scale duty) s = record { warned = refl; warnings = refl; kept = refl }
 
 settled-unwarned : (x : Setting) (s : St7789p3) → unwarned (panelSettled x s) ≡ unwarned (panelSettled x (unwarned s))
 settled-unwarned (power on) s = refl
@@ -84,15 +84,15 @@ module _ (p s : St7789p3) (w : Beside p s) where
 
   emptied :
       (f : St7789p3 → St7789p3) → ((r : St7789p3) → f r .controller .logs .warned ≡ 0) →
-      ((r : St7789p3) → f r .controller .cfg .strict ≡ r .controller .cfg .strict) → Both f
-  emptied f none profile good reads =
+      ((r : St7789p3) → chosen (f r) ≡ chosen r) → Both f
+  emptied f none kept good reads =
       record {
         agree =
             record {
               rest = reads p ∙ ap (λ r. unwarned (f r)) (w .agree .rest) ∙ sym (reads s);
               three = λ few. ap (λ n. ofThree (take n (f s .warnings))) (none s) ∙ sym (ap (λ n. take n (f p .warnings)) (none p));
             };
-        plain = profile p ∙ w .plain;
+        plain = ap (λ (c : PanelConfig). c .strict) (kept p) ∙ w .plain;
         good-p = good p (w .good-p);
         good-s = good s (w .good-s);
       }
@@ -103,7 +103,7 @@ module _ (p s : St7789p3) (w : Beside p s) where
   railed false = w
 
   published-beside : (b : Bool) → Beside (cond b (unmarked p) p) (cond b (unmarked s) s)
-  published-beside true = kept unmarked (λ r. record { warned = refl; warnings = refl; profile = refl }) unmarked-good (λ r. refl)
+  published-beside true = kept unmarked (λ r. record { warned = refl; warnings = refl; kept = refl }) unmarked-good (λ r. refl)
   published-beside false = w
 
   operated-beside : (o : Operation) → Beside (operated p o) (operated s o)
@@ -117,7 +117,7 @@ module _ (p s : St7789p3) (w : Beside p s) where
       reset-beside true rail = railed rail
       reset-beside false rail = w
   operated-beside (setting x) = kept (panelSettled x) (settled-leaves x) (λ r g. settled-good x r g) (settled-unwarned x)
-  operated-beside marking = kept (λ r. withController (allMarked (r .controller)) r) (λ r. record { warned = refl; warnings = refl; profile = refl }) marked-good (λ r. refl)
+  operated-beside marking = kept (λ r. withController (allMarked (r .controller)) r) (λ r. record { warned = refl; warnings = refl; kept = refl }) marked-good (λ r. refl)
   operated-beside taking = emptied (λ r. warningsTaken r .panel) (λ r. refl) (λ r. refl) taken-warnings-good (λ r. refl)
 
 -- Operations in turn, and so from fresh panels.
@@ -192,26 +192,26 @@ hosts-agree on calls =
     let w = run-beside (freshHost (plainly on)) (freshHost (strictly on)) (record { memory = refl; frame = refl; panels = fresh-beside on }) calls in
     record { memory = w .memory; frame = w .frame; panels = w .panels .agree }
 
--- The profile stays as it was chosen, by every operation.
-operated-profile : (s : St7789p3) (o : Operation) → operated s o .controller .cfg .strict ≡ s .controller .cfg .strict
+-- What was chosen when the panel was made, its profile and its mode of formats, stays, by every operation.
+operated-chosen : (s : St7789p3) (o : Operation) → chosen (operated s o) ≡ chosen s
 unfolding operated published resetState emptyLists freshController
-operated-profile s (transferring memory cells t dc bytes cs) = transferred-profile memory t dc bytes cs cells s
-operated-profile s (publishing cells room) =
-    unless-either (publishRefusal s cells room) (unmarked s) s (λ r. r .controller .cfg .strict ≡ s .controller .cfg .strict) refl refl
-operated-profile s (resetting domain cells) =
-    unless-either (memoryRefusal cells) (railReset (isBoardRail domain) s) s (λ r. r .controller .cfg .strict ≡ s .controller .cfg .strict)
+operated-chosen s (transferring memory cells t dc bytes cs) = transferred-chosen memory t dc bytes cs cells s
+operated-chosen s (publishing cells room) =
+    unless-either (publishRefusal s cells room) (unmarked s) s (λ r. chosen r ≡ chosen s) refl refl
+operated-chosen s (resetting domain cells) =
+    unless-either (memoryRefusal cells) (railReset (isBoardRail domain) s) s (λ r. chosen r ≡ chosen s)
     (rail (isBoardRail domain)) refl
   where
-    rail : (b : Bool) → railReset b s .controller .cfg .strict ≡ s .controller .cfg .strict
+    rail : (b : Bool) → chosen (railReset b s) ≡ chosen s
     rail true = refl
     rail false = refl
-operated-profile s (setting x) = settled-leaves x s .profile
-operated-profile s marking = refl
-operated-profile s taking = refl
+operated-chosen s (setting x) = settled-leaves x s .kept
+operated-chosen s marking = refl
+operated-chosen s taking = refl
 
-pub always-profile : (s : St7789p3) (operations : List Operation) → foldl operated s operations .controller .cfg .strict ≡ s .controller .cfg .strict
-always-profile s [] = refl
-always-profile s (o ∷ operations) = always-profile (operated s o) operations ∙ operated-profile s o
+pub always-chosen : (s : St7789p3) (operations : List Operation) → chosen (foldl operated s operations) ≡ chosen s
+always-chosen s [] = refl
+always-chosen s (o ∷ operations) = always-chosen (operated s o) operations ∙ operated-chosen s o
 
 -- Under plain everything is as before.
 operated-before : (s : St7789p3) (o : Operation) → s .controller .cfg .strict ≡ false → operated s o ≡ operatedBefore s o
@@ -227,4 +227,4 @@ pub always-before :
     (s : St7789p3) (operations : List Operation) → s .controller .cfg .strict ≡ false → foldl operated s operations ≡ foldl operatedBefore s operations
 always-before s [] e = refl
 always-before s (o ∷ operations) e =
-    always-before (operated s o) operations (operated-profile s o ∙ e) ∙ ap (λ r. foldl operatedBefore r operations) (operated-before s o e)
+    always-before (operated s o) operations (ap (λ (c : PanelConfig). c .strict) (operated-chosen s o) ∙ e) ∙ ap (λ r. foldl operatedBefore r operations) (operated-before s o e)

@@ -23,7 +23,7 @@ use Rattle.laws.specs.Valid.{Sized}
 use Rattle.laws.proofs.Bare.{same-state}
 use Rattle.laws.proofs.Marks.{unmarked}
 use Rattle.laws.proofs.Reach.{fresh-good}
-use Rattle.laws.proofs.Stays.{moved-good}
+use Rattle.laws.proofs.Stays.{moved-sized}
 use Rattle.laws.proofs.SameRefused.{bad-same}
 use Rattle.laws.proofs.SameKept.{powered-same, shows-same, brightness-same, marked-same, unmarked-same, taken-warnings-same, reset-same}
 use Rattle.laws.proofs.SameMoved.{transferred-same, bare-transferred-same}
@@ -73,8 +73,8 @@ transferred-sized t dc bytes cs cells s z = go (eqb (transferRefusal s cells (le
   where
     go : (b : Bool) → eqb (transferRefusal s cells (length bytes)) 0 ≡ b → Sized (cond b (moved t dc bytes cs s) s)
     go true e =
-        moved-good t dc bytes cs s
-        (record { sized = z; fine = none-refused s cells (length bytes) (eqb-true (transferRefusal s cells (length bytes)) 0 e) 0 }) .sized
+        moved-sized t dc bytes cs s
+        (record { sized = z; fine = none-refused s cells (length bytes) (eqb-true (transferRefusal s cells (length bytes)) 0 e) 0 })
     go false e = z
 
 operated-sized : (s : St7789p3) (o : Operation) → Sized s → Sized (operated s o)

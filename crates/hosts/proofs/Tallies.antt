@@ -36,7 +36,7 @@ use Rattle.laws.proofs.Answers.{begun-others}
 use Rattle.laws.proofs.DataKinds.{dataBy}
 use Rattle.laws.proofs.Marks.{unmarked}
 use Rattle.laws.proofs.Reach.{fresh-good}
-use Rattle.laws.proofs.Stays.{logsBy, traceBy, lined}
+use Rattle.laws.proofs.Stays.{fine-of, logsBy, traceBy, lined}
 use Rattle.laws.proofs.Traces.{Lined, lasting}
 use Rattle.publishing.specs.Publish.{publishRefusal, published}
 use Rattle.hosts.specs.Calls.{Call, freshHost, defined, run}
@@ -157,7 +157,7 @@ data-tallied bytes s g = go (s .controller .chip .decoder .«in_pixels») (s .co
     go : (run : Bool) (f : InForce) → countsIn (dataBy run f bytes s) ≡ cond run (pixelsSent bytes k (countsIn s)) (listed f)
     go true f =
         tally-same refl refl refl refl refl refl
-        (held-grown (morePixels (length bytes)) (length bytes) (λ r. refl) (k .logs .current) (traceOf s) (k .chip .decoder .params) (lined s g))
+        (held-grown (morePixels (length bytes)) (length bytes) (λ r. refl) (k .logs .current) (traceOf s) (k .chip .decoder .params) (lined s (fine-of s g)))
     go false InForce.Nothing = tally-same refl refl refl (omega arith) refl refl (held-kept (λ r. r) (λ r. refl) (k .logs .current) (k .logs .traced) (s .records))
     go false (Code c) = tally-same refl refl refl refl refl refl (held-kept (moreParams bytes) (λ r. refl) (k .logs .current) (k .logs .traced) (s .records))
 

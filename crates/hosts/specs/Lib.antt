@@ -4,3 +4,4 @@ pub mod Tallies
 pub mod Hosts
 pub mod Instance
 pub mod Profiles
+pub mod Former

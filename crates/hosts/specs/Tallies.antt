@@ -67,10 +67,10 @@ pixelsSent bytes k y =
     record {
       commands = y .commands;
       ramwrs = y .ramwrs;
-      pixels = y .pixels + chipCounted (k .chip) bytes;
+      pixels = y .pixels + chipCounted (k .cfg .formats) (k .chip) bytes;
       dropped = y .dropped;
-      inverted = y .inverted + chipTotals (k .chip) bytes .inverted;
-      unmapped = y .unmapped + chipTotals (k .chip) bytes .unmapped;
+      inverted = y .inverted + chipTotals (k .cfg .formats) (k .chip) bytes .inverted;
+      unmapped = y .unmapped + chipTotals (k .cfg .formats) (k .chip) bytes .unmapped;
       held = grownAt (k .logs .current) (length bytes) (y .held);
     }
 

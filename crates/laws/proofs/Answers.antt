@@ -47,10 +47,10 @@ kept-answered s r ep ei eu = record { pixels = omega arith; inverted = omega ari
 data-answered : (bytes : List ℕ) (s : St7789p3) → Answered (totalsIn true bytes (s .controller)) s (dataIn bytes s)
 unfolding ran taken
 data-answered bytes s =
-    by-kind bytes s (λ run r. Answered (cond run (chipTotals (s .controller .chip) bytes) noTotals) s r)
+    by-kind bytes s (λ run r. Answered (cond run (chipTotals (s .controller .cfg .formats) (s .controller .chip) bytes) noTotals) s r)
     (λ f.
     record {
-      pixels = omega (arith, totals-counted (siteOf (s .controller .chip)) (s .controller .chip .walk) bytes);
+      pixels = omega (arith, totals-counted (siteOf (s .controller .cfg .formats) (s .controller .chip)) (s .controller .chip .walk) bytes);
       inverted = refl;
       unmapped = refl;
     })
@@ -96,14 +96,14 @@ pub stored-stores : (dc : Bool) (bytes : List ℕ) (k : Controller) → totalsIn
 unfolding totalsOf stores
 stored-stores true bytes k = go (k .chip .decoder .«in_pixels»)
   where
-    go : (run : Bool) → cond run (chipTotals (k .chip) bytes) noTotals .stored ≡ length (cond {A = List Store} run (chipStores (k .chip) bytes) [])
+    go : (run : Bool) → cond run (chipTotals (k .cfg .formats) (k .chip) bytes) noTotals .stored ≡ length (cond {A = List Store} run (chipStores (k .cfg .formats) (k .chip) bytes) [])
     go true = refl
     go false = refl
 stored-stores false bytes k = refl
 
 -- By whether a run is on.
 abbrev by : Bool → List ℕ → Controller → Totals
-by run bytes k = cond run (chipTotals (k .chip) bytes) noTotals
+by run bytes k = cond run (chipTotals (k .cfg .formats) (k .chip) bytes) noTotals
 
 -- A cut adds up: data in two parts answers what the whole answers.
 pub answers-cut :
@@ -119,7 +119,7 @@ answers-cut a b s = go (s .controller .chip .decoder .«in_pixels») (s .control
         (run : Bool) (f : InForce) → k .chip .decoder .«in_pixels» ≡ run →
         by run (a ++ b) k ≡ added (by run a k) (totalsIn true b (dataBy run f a s .controller))
     go true f e =
-        totals-cut (siteOf (k .chip)) a b (k .chip .walk)
-        ∙ ap (λ run. added (chipTotals (k .chip) a) (by run b (ran a k))) (sym e)
+        totals-cut (siteOf (k .cfg .formats) (k .chip)) a b (k .chip .walk)
+        ∙ ap (λ run. added (chipTotals (k .cfg .formats) (k .chip) a) (by run b (ran a k))) (sym e)
     go false InForce.Nothing e = ap (λ run. added noTotals (by run b k)) (sym e)
     go false (Code c) e = ap (λ run. added noTotals (by run b (taken c a k))) (sym (taken-run (commandOf c) a (k .chip) ∙ e))

@@ -140,10 +140,10 @@ data-grown bytes s g =
     record {
       commands = omega arith;
       ramwrs = omega arith;
-      pixels = omega (arith, counted-few (siteOf (s .controller .chip)) (s .controller .chip .walk) bytes);
+      pixels = omega (arith, counted-few (siteOf (s .controller .cfg .formats) (s .controller .chip)) (s .controller .chip .walk) bytes);
       dropped = omega arith;
-      inverted = omega (arith, totals-few (siteOf (s .controller .chip)) (s .controller .chip .walk) bytes);
-      unmapped = omega (arith, totals-few (siteOf (s .controller .chip)) (s .controller .chip .walk) bytes);
+      inverted = omega (arith, totals-few (siteOf (s .controller .cfg .formats) (s .controller .chip)) (s .controller .chip .walk) bytes);
+      unmapped = omega (arith, totals-few (siteOf (s .controller .cfg .formats) (s .controller .chip)) (s .controller .chip .walk) bytes);
       held = held (morePixels (length bytes)) (λ r. omega arith);
       each = each (morePixels (length bytes)) (λ r. omega arith);
     })

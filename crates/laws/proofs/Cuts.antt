@@ -49,14 +49,14 @@ module _ (a b : List ℕ) (k : Controller) where
   ran-cut : ran (a ++ b) k ≡ ran b (ran a k)
   unfolding ran
   ran-cut =
-      ap (λ w. by w (pixelsAdded (chipCounted (k .chip) (a ++ b)) (chipTotals (k .chip) (a ++ b)) (k .counts)))
+      ap (λ w. by w (pixelsAdded (chipCounted (k .cfg .formats) (k .chip) (a ++ b)) (chipTotals (k .cfg .formats) (k .chip) (a ++ b)) (k .counts)))
       (walked-cut site a b (unwalked (k .chip .walk) (k .marks)))
       ∙ ap (by (walkedOn site (walkOver k a) b))
       (ap₂ (λ n t. pixelsAdded n t (k .counts)) (count-cut site a b (k .chip .walk)) (totals-cut site a b (k .chip .walk))
-      ∙ added-twice (chipCounted (k .chip) a) (pixelsCounted site (walkOver k a .walk) b) (chipTotals (k .chip) a) (totals site (walkOver k a .walk) b))
+      ∙ added-twice (chipCounted (k .cfg .formats) (k .chip) a) (pixelsCounted site (walkOver k a .walk) b) (chipTotals (k .cfg .formats) (k .chip) a) (totals site (walkOver k a .walk) b))
     where
       site : Site
-      site = siteOf (k .chip)
+      site = siteOf (k .cfg .formats) (k .chip)
 
       by : Walked → Counts → Controller
       by w n = whole (k .cfg) (k .power) (walkedChip (w .walk) (k .chip)) n (w .marks) (k .logs)

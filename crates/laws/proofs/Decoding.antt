@@ -52,9 +52,9 @@ pub need-byte : (c : ℕ) → needOf c ≡ needOfByte c
 need-byte c = need-for c ∙ rw (is-caset c, is-raset c, is-madctl c, is-colmod c, is-ramctrl c)
 
 module _ (c : ℕ) where
-  pub lint-byte : (strict : Bool) (times : Times) (colmod t : ℕ) → brokenBy strict times colmod (kindOf c) t ≡ brokenByByte strict times colmod c t
+  pub lint-byte : (strict formats : Bool) (times : Times) (colmod t : ℕ) → brokenBy strict formats times colmod (kindOf c) t ≡ brokenByByte strict formats times colmod c t
   unfolding brokenBy
-  lint-byte strict times colmod t = rw (is-slpin c, is-slpout c, is-ramwr c, is-ramwrc c)
+  lint-byte strict formats times colmod t = rw (is-slpin c, is-slpout c, is-ramwr c, is-ramwrc c)
 
   pub times-byte : (times : Times) (t : ℕ) → timesAfter times (kindOf c) t ≡ timesAfterByte times c t
   unfolding timesAfter

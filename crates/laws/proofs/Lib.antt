@@ -21,3 +21,4 @@ pub mod Sentences
 pub mod Decoding
 pub mod Plain
 pub mod Profiles
+pub mod Former

@@ -24,7 +24,7 @@ unfolding brokenBy
 plain-rules c t k e =
     let one = only (breaks1 (k .chip .times) (kindOf c) t) 1 in
     let two = only (breaks2 (k .chip .times) (kindOf c) t) 2 in
-    let three = only (breaks3 (k .chip .registers .colmod) (kindOf c)) 3 in
+    let three = only (breaks3 (k .cfg .formats) (k .chip .registers .colmod) (kindOf c)) 3 in
     ap (λ strict. one ++ (two ++ (three ++ only (breaks4 strict (k .chip .times) t) 4))) e ∙ ap (λ l. one ++ (two ++ l)) (append-nil three)
 
 begun-before : (c t : ℕ) (s : St7789p3) → s .controller .cfg .strict ≡ false → begun c t s ≡ begunBefore c t s

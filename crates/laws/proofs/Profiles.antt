@@ -16,6 +16,7 @@ use Rattle.lists.specs.declared.Current.{Current}
 use Rattle.lists.proofs.Fixed.{count-all}
 use Rattle.timing.specs.Lint.{breaks1, breaks2, breaks3, breaks4, brokenBy, only}
 use Rattle.board.specs.Board.{strictSet}
+use Rattle.board.specs.declared.PanelConfig.{PanelConfig}
 use Rattle.pixels.specs.Run.{written, noTotals}
 use Rattle.chip.specs.declared.InForce.{InForce}
 use Rattle.chip.specs.declared.InForce.the-variants.{Code}
@@ -35,7 +36,7 @@ use Rattle.st7789.specs.declared.St7789p3.{St7789p3}
 use Rattle.st7789.proofs.Tests.{clause}
 use Rattle.st7789.proofs.Accepted.{bare}
 use Rattle.laws.specs.Valid.{Good}
-use Rattle.laws.specs.Profiles.{threeRules, unwarned, ofThree, ProfilesAgree}
+use Rattle.laws.specs.Profiles.{threeRules, chosen, unwarned, ofThree, ProfilesAgree}
 use Rattle.laws.proofs.DataKinds.{dataBy, by-kind}
 use Rattle.laws.proofs.Meaning.{warnings-mean}
 use Rattle.laws.proofs.Plain.{plain-rules}
@@ -113,7 +114,7 @@ pub bad-unwarned : (s : St7789p3) → Good s → badState s ≡ badState (unwarn
 unfolding badState
 bad-unwarned s g =
     g .fine
-    ∙ sym (unseen-good (strictSet false (s .controller .cfg)) (s .controller .power) (s .controller .counts) _ 0 (s .warnings) s g (g .sized .warnings) (clause s (g .fine) 7) refl .fine)
+    ∙ sym (unseen-good (strictSet false (s .controller .cfg)) (s .controller .power) (s .controller .counts) _ 0 (s .warnings) s g refl (g .sized .warnings) (clause s (g .fine) 7) refl .fine)
 
 pub refusal-unwarned : (s : St7789p3) → Good s → (cells n : ℕ) → transferRefusal s cells n ≡ transferRefusal (unwarned s) cells n
 unfolding transferRefusal
@@ -168,7 +169,7 @@ module _ (c t : ℕ) where
   unfolding brokenBy
   warnings-three k =
       three-mapped (breaks1 (k .chip .times) (kindOf c) t) (breaks2 (k .chip .times) (kindOf c) t)
-      (breaks3 (k .chip .registers .colmod) (kindOf c)) (breaks4 (k .cfg .strict) (k .chip .times) t)
+      (breaks3 (k .cfg .formats) (k .chip .registers .colmod) (kindOf c)) (breaks4 (k .cfg .strict) (k .chip .times) t)
 
 -- The two panels, and what the laws need to know of them.
 pub record Beside (p s : St7789p3) : Type 0 where
@@ -223,11 +224,11 @@ module _ (p s : St7789p3) (w : Beside p s) (c t : ℕ) where
         good-s = begun-good c t s (w .good-s);
       }
 
--- What leaves the warnings and the profile alone.
+-- What leaves the warnings alone, and what was chosen when the panel was made.
 pub record Leaves (s r : St7789p3) : Type 0 where
   pub warned : r .controller .logs .warned ≡ s .controller .logs .warned
   pub warnings : r .warnings ≡ s .warnings
-  pub profile : r .controller .cfg .strict ≡ s .controller .cfg .strict
+  pub kept : chosen r ≡ chosen s
 
 pub left-beside :
     {p s p′ s′ : St7789p3} → Beside p s → Leaves p p′ → Leaves s s′ → unwarned p′ ≡ unwarned s′ → Good p′ → Good s′ → Beside p′ s′
@@ -241,7 +242,7 @@ left-beside {p} {s} {p′} {s′} w u v e g h =
                 ∙ w .agree .three (omega (arith, few, v .warned))
                 ∙ sym (ap₂ take (u .warned) (u .warnings));
           };
-      plain = u .profile ∙ w .plain;
+      plain = ap (λ (c : PanelConfig). c .strict) (u .kept) ∙ w .plain;
       good-p = g;
       good-s = h;
     }
@@ -253,17 +254,17 @@ all-beside t (c ∷ bytes) p s w = all-beside t bytes (begun c t p) (begun c t s
 data-leaves : (bytes : List ℕ) (s : St7789p3) → Leaves s (dataIn bytes s)
 unfolding ran taken
 data-leaves bytes s =
-    by-kind bytes s (λ run r. Leaves s r) (λ f. record { warned = refl; warnings = refl; profile = refl })
-    (record { warned = refl; warnings = refl; profile = refl }) (λ c. record { warned = refl; warnings = refl; profile = refl })
+    by-kind bytes s (λ run r. Leaves s r) (λ f. record { warned = refl; warnings = refl; kept = refl })
+    (record { warned = refl; warnings = refl; kept = refl }) (λ c. record { warned = refl; warnings = refl; kept = refl })
 
 release-leaves : (cs : Bool) (s : St7789p3) → Leaves s (cond cs (released s) s)
 unfolding controllerReleased
-release-leaves true s = record { warned = refl; warnings = refl; profile = refl }
-release-leaves false s = record { warned = refl; warnings = refl; profile = refl }
+release-leaves true s = record { warned = refl; warnings = refl; kept = refl }
+release-leaves false s = record { warned = refl; warnings = refl; kept = refl }
 
 leaves-then : {s r q : St7789p3} → Leaves s r → Leaves r q → Leaves s q
 leaves-then u v =
-    record { warned = v .warned ∙ u .warned; warnings = v .warnings ∙ u .warnings; profile = v .profile ∙ u .profile }
+    record { warned = v .warned ∙ u .warned; warnings = v .warnings ∙ u .warnings; kept = v .kept ∙ u .kept }
 
 -- A segment, and a transfer, refused or not.
 data-left : (t : ℕ) (bytes : List ℕ) (cs : Bool) (s : St7789p3) → Leaves s (moved t true bytes cs s)
@@ -331,23 +332,23 @@ totals-beside p s w Lent dc bytes cells =
 totals-beside p s w Without dc bytes cells =
     ap₂ (λ n (r : St7789p3). unlessRefused n (totalsIn dc bytes (r .controller)) noTotals) (refusal-beside p s w Without cells (length bytes)) (w .agree .rest)
 
--- The profile itself stays.
-commands-profile : (t : ℕ) (bytes : List ℕ) (s : St7789p3) → begunAll t bytes s .controller .cfg .strict ≡ s .controller .cfg .strict
+-- What was chosen stays.
+commands-chosen : (t : ℕ) (bytes : List ℕ) (s : St7789p3) → chosen (begunAll t bytes s) ≡ chosen s
 unfolding begun
-commands-profile t [] s = refl
-commands-profile t (c ∷ bytes) s = commands-profile t bytes (begun c t s)
+commands-chosen t [] s = refl
+commands-chosen t (c ∷ bytes) s = commands-chosen t bytes (begun c t s)
 
-moved-profile : (t : ℕ) (dc : Bool) (bytes : List ℕ) (cs : Bool) (s : St7789p3) → moved t dc bytes cs s .controller .cfg .strict ≡ s .controller .cfg .strict
-moved-profile t true bytes cs s = data-left t bytes cs s .profile
-moved-profile t false bytes cs s = commands-left t bytes cs s .profile ∙ commands-profile t bytes s
+moved-chosen : (t : ℕ) (dc : Bool) (bytes : List ℕ) (cs : Bool) (s : St7789p3) → chosen (moved t dc bytes cs s) ≡ chosen s
+moved-chosen t true bytes cs s = data-left t bytes cs s .kept
+moved-chosen t false bytes cs s = commands-left t bytes cs s .kept ∙ commands-chosen t bytes s
 
-pub transferred-profile :
+pub transferred-chosen :
     (memory : PanelMemory) (t : ℕ) (dc : Bool) (bytes : List ℕ) (cs : Bool) (cells : ℕ) (s : St7789p3) →
-    transferredWith memory t dc bytes cs cells s .controller .cfg .strict ≡ s .controller .cfg .strict
+    chosen (transferredWith memory t dc bytes cs cells s) ≡ chosen s
 unfolding transferred bareTransferred
-transferred-profile Lent t dc bytes cs cells s =
-    unless-either (transferRefusal s cells (length bytes)) (moved t dc bytes cs s) s (λ r. r .controller .cfg .strict ≡ s .controller .cfg .strict)
-    (moved-profile t dc bytes cs s) refl
-transferred-profile Without t dc bytes cs cells s =
-    unless-either (bareRefusal s (length bytes)) (moved t dc bytes cs s) s (λ r. r .controller .cfg .strict ≡ s .controller .cfg .strict)
-    (moved-profile t dc bytes cs s) refl
+transferred-chosen Lent t dc bytes cs cells s =
+    unless-either (transferRefusal s cells (length bytes)) (moved t dc bytes cs s) s (λ r. chosen r ≡ chosen s)
+    (moved-chosen t dc bytes cs s) refl
+transferred-chosen Without t dc bytes cs cells s =
+    unless-either (bareRefusal s (length bytes)) (moved t dc bytes cs s) s (λ r. chosen r ≡ chosen s)
+    (moved-chosen t dc bytes cs s) refl

@@ -33,10 +33,10 @@ use Rattle.st7789.specs.declared.Controller.{Controller}
 use Rattle.st7789.specs.declared.St7789p3.{St7789p3}
 use Rattle.st7789.proofs.Tests.{clause}
 use Rattle.st7789.proofs.Accepted.{none-refused}
-use Rattle.laws.specs.Valid.{Sized, Good}
+use Rattle.laws.specs.Valid.{Sized, Fine}
 use Rattle.laws.specs.Same.{InUse, inUse, storedContent, Entry, entry, fieldsOf, Content, content, Same}
 use Rattle.laws.proofs.DataKinds.{dataBy}
-use Rattle.laws.proofs.Stays.{lined, begun-good}
+use Rattle.laws.proofs.Stays.{lined, begun-fine}
 use Rattle.laws.proofs.Meaning.{warnings-mean, trace-means}
 use Rattle.laws.proofs.Stepped.{pushedIn, filled-content, onEntry, current-content}
 use Rattle.laws.proofs.Bare.{same-state}
@@ -58,7 +58,7 @@ begunIn c t v =
       warnings = w .part;
     }
 
-begun-content : (c t : ℕ) (s : St7789p3) → Good s → content (begun c t s) ≡ begunIn c t (content s)
+begun-content : (c t : ℕ) (s : St7789p3) → Fine s → content (begun c t s) ≡ begunIn c t (content s)
 unfolding begun chipBegun
 begun-content c t s g i =
     record {
@@ -81,10 +81,10 @@ begun-content c t s g i =
         ∙ map-take entry places (used (traceOf s) ++ (begunRecord c t ∷ []))
         ∙ ap (take places) (map-append entry (used (traceOf s)) (begunRecord c t ∷ []))
 
-all-content : (t : ℕ) (bytes : List ℕ) (s : St7789p3) → Good s → content (begunAll t bytes s) ≡ foldl (λ v c. begunIn c t v) (content s) bytes
+all-content : (t : ℕ) (bytes : List ℕ) (s : St7789p3) → Fine s → content (begunAll t bytes s) ≡ foldl (λ v c. begunIn c t v) (content s) bytes
 all-content t [] s g = refl
 all-content t (c ∷ bytes) s g =
-    all-content t bytes (begun c t s) (begun-good c t s g) ∙ ap (λ v. foldl (λ v c. begunIn c t v) v bytes) (begun-content c t s g)
+    all-content t bytes (begun c t s) (begun-fine c t s g) ∙ ap (λ v. foldl (λ v c. begunIn c t v) v bytes) (begun-content c t s g)
 
 -- Data for a command: what it applies is told by the bytes that came.
 abbrev paramsOf : InUse ℕ → Params
@@ -157,7 +157,7 @@ dataIn′ false (Code c) bytes v =
       warnings = v .warnings;
     }
 
-data-content : (run : Bool) (f : InForce) (bytes : List ℕ) (s : St7789p3) → Good s → content (dataBy run f bytes s) ≡ dataIn′ run f bytes (content s)
+data-content : (run : Bool) (f : InForce) (bytes : List ℕ) (s : St7789p3) → Fine s → content (dataBy run f bytes s) ≡ dataIn′ run f bytes (content s)
 unfolding ran taken chipTaken
 data-content true f bytes s g = λ i.
     record {
@@ -236,7 +236,7 @@ movedIn t dc bytes cs v =
     cond cs (releasedIn w) w
 
 moved-content :
-    (t : ℕ) (dc : Bool) (bytes : List ℕ) (cs : Bool) (s : St7789p3) → Good s → content (moved t dc bytes cs s) ≡ movedIn t dc bytes cs (content s)
+    (t : ℕ) (dc : Bool) (bytes : List ℕ) (cs : Bool) (s : St7789p3) → Fine s → content (moved t dc bytes cs s) ≡ movedIn t dc bytes cs (content s)
 unfolding moved movedIn dataIn
 moved-content t dc bytes cs s g = go dc cs
   where

@@ -17,7 +17,7 @@ use Rattle.st7789.specs.declared.Controller.{Controller}
 
 -- What data stores, by whether a run is on.
 abbrev pub storesBy : Bool → List ℕ → Controller → List Store
-storesBy run bytes k = cond run (chipStores (k .chip) bytes) []
+storesBy run bytes k = cond run (chipStores (k .cfg .formats) (k .chip) bytes) []
 
 stores-by : (bytes : List ℕ) (k : Controller) (run : Bool) → k .chip .decoder .«in_pixels» ≡ run → storesIn true bytes k ≡ storesBy run bytes k
 stores-by bytes k run e = ap (λ x. storesBy x bytes k) e
@@ -30,7 +30,7 @@ stores-both a b k = go (k .chip .decoder .«in_pixels») (k .chip .decoder .cmd)
         (run : Bool) (f : InForce) → k .chip .decoder .«in_pixels» ≡ run →
         storesBy run (a ++ b) k ≡ storesBy run a k ++ storesIn true b (cond run (ran a k) (takenFor f a k))
     go true f e =
-        stores-cut (siteOf (k .chip)) a b (k .chip .walk)
+        stores-cut (siteOf (k .cfg .formats) (k .chip)) a b (k .chip .walk)
         ∙ ap (λ l. storesBy true a k ++ l) (sym (stores-by b (ran a k) true e))
     go false InForce.Nothing e = sym (stores-by b k false e)
     go false (Code c) e = sym (stores-by b (taken c a k) false (taken-run (commandOf c) a (k .chip) ∙ e))
@@ -39,5 +39,5 @@ pub in-panel : (dc : Bool) (bytes : List ℕ) (k : Controller) (x : Store) → L
 in-panel dc bytes k x = go (dc && k .chip .decoder .«in_pixels»)
   where
     go : (run : Bool) → List·Memᴰ x (storesBy run bytes k) → x .index < 76800
-    go true m = stores-below (siteOf (k .chip)) (k .chip .walk) bytes x m
+    go true m = stores-below (siteOf (k .cfg .formats) (k .chip)) (k .chip .walk) bytes x m
     go false m = elim (List·Memᴰ·not-nil m) [ ]

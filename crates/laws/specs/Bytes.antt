@@ -9,11 +9,11 @@ use Rattle.codes.specs.declared.Kind.{Kind}
 use Rattle.codes.specs.declared.Kind.the-variants.{NoEffect, Swreset, Slpin, Slpout, Invoff, Invon, Dispoff, Dispon, Caset, Raset, Ramwr, Madctl, Colmod, Ramwrc, Ramctrl, Porctrl, Gctrl, Vcoms, Lcmctrl, Vdvvrhen, Vrhs, Vdvs, Frctrl2, Pwctrl1, VendorD6, Pvgamctrl, Nvgamctrl}
 use Rattle.geometry.specs.Place.{largestColumn, largestRow}
 use Rattle.geometry.specs.declared.Window.{Window}
-use Rattle.pixels.specs.declared.Carry.the-variants.{Empty}
+use Rattle.formats.specs.declared.Carry.the-variants.{Empty}
 use Rattle.pixels.specs.declared.Walk.{Walk}
 use Rattle.lists.specs.Entries.{some}
 use Rattle.lists.specs.declared.Params.{Params}
-use Rattle.timing.specs.Lint.{soonAfter}
+use Rattle.timing.specs.Lint.{soonAfter, wrongColmod}
 use Rattle.timing.specs.declared.Moment.the-variants.{At}
 use Rattle.timing.specs.declared.Times.{Times}
 use Rattle.timing.specs.declared.Broken.{Broken}
@@ -70,14 +70,14 @@ needOfByte c =
     cond (eqb c 0x2A || eqb c 0x2B) 4 (cond (eqb c 0x36 || eqb c 0x3A) 1 (cond (eqb c 0xB0) 2 0))
 
 -- Lint: "(1) Any command but 11, less than 5 ms after a wake. (2) 10 less than 120 ms after the wake, or 11 less than 120 ms after the
--- sleep-in. (3) 2C or 3C with COLMOD not 55." Rule 4 asks for no byte.
-abbrev pub brokenByByte : Bool → Times → ℕ → ℕ → ℕ → Broken
-brokenByByte strict times colmod c t =
+-- sleep-in. (3) 2C or 3C with COLMOD not 55." Which COLMOD it is that rule 3 warns of is not asked of the byte; rule 4 asks for no byte.
+abbrev pub brokenByByte : Bool → Bool → Times → ℕ → ℕ → ℕ → Broken
+brokenByByte strict formats times colmod c t =
     record {
       rule1 = not (eqb c 0x11) && soonAfter (times .slpout) t 5000000;
       rule2 =
           (eqb c 0x10 && soonAfter (times .slpout) t 120000000) || (eqb c 0x11 && soonAfter (At (times .slpin)) t 120000000);
-      rule3 = (eqb c 0x2C || eqb c 0x3C) && not (eqb colmod 0x55);
+      rule3 = (eqb c 0x2C || eqb c 0x3C) && wrongColmod formats colmod;
       rule4 = strict && soonAfter (times .swreset) t 5000000;
     }
 

@@ -7,7 +7,8 @@ use mathlib.Core.List.{List, [], _∷_, _++_, map}
 use lib.ListN.{set, replicate}
 use lib.Dec.{eqb}
 use Rattle.status.specs.Tests.{memoryRefusal}
-use Rattle.pixels.specs.declared.Carry.the-variants.{Empty}
+use Rattle.formats.specs.declared.Carry.{Carry}
+use Rattle.formats.specs.declared.Carry.the-variants.{Empty, One, Two}
 use Rattle.marks.specs.Rows.{ofSpan}
 use Rattle.marks.specs.declared.Span.{Span}
 use Rattle.marks.specs.declared.Span.the-variants.{Rows}
@@ -15,9 +16,9 @@ use Rattle.lists.specs.Params.{noParams}
 use Rattle.lists.specs.declared.Params.{Params}
 use Rattle.lists.specs.declared.Current.{Current}
 use Rattle.lists.specs.declared.Current.the-variants.{Nothing, At}
-use Rattle.board.specs.Board.{switchedTo}
+use Rattle.board.specs.Board.{switchedTo, formatsSet}
 use Rattle.chip.specs.declared.InForce.{InForce}
-use Rattle.st7789.specs.Parts.{withController, withChip, withCounts, withMarks, withLogs}
+use Rattle.st7789.specs.Parts.{withController, withCfg, withChip, withCounts, withMarks, withLogs}
 use Rattle.st7789.specs.Entries.{freshPanel}
 use Rattle.st7789.specs.Refusals.{transferRefusal, bareRefusal}
 use Rattle.st7789.specs.declared.Controller.{Controller}
@@ -67,6 +68,32 @@ cornered xs xe ys ye x y =
       times = k .chip .times;
     })
     k)
+    plain
+
+-- A panel whose COLMOD and second RAMCTRL byte are these, with a carry, and the mode on or off.
+abbrev pub carrying : Bool → ℕ → ℕ → Carry → St7789p3
+carrying formats colmod ramctrl1 carry =
+    onController
+    (λ k.
+    withCfg (formatsSet formats (k .cfg))
+    (withChip
+    (record {
+      registers =
+          record {
+            sleeping = k .chip .registers .sleeping;
+            «display_on» = k .chip .registers .«display_on»;
+            inverted = k .chip .registers .inverted;
+            madctl = k .chip .registers .madctl;
+            colmod = colmod;
+            ramctrl0 = k .chip .registers .ramctrl0;
+            ramctrl1 = ramctrl1;
+          };
+      window = k .chip .window;
+      walk = record { pointer = k .chip .walk .pointer; carry = carry };
+      decoder = k .chip .decoder;
+      times = k .chip .times;
+    })
+    k))
     plain
 
 -- A parameter list of n bytes, the first of which is this.
@@ -169,6 +196,18 @@ stateLimits =
     ∷ given 1 (inForce (list 1 7) (traced 1 (list 1 8) 0 (At 0) plain))
     ∷ given 1 (inForce (list 1 7) (traced 1 (list 2 7) 0 (At 0) plain))
     ∷ given 0 (inForce (list 0 7) (traced 1 (list 0 8) 0 (At 0) plain))
+    -- 02, Q-5: "a carry of two bytes outside 12 and 18 bits"; one byte may wait in every format
+    ∷ given 0 (carrying true 0x03 0x00 (Two 1 2))
+    ∷ given 0 (carrying true 0x66 0x00 (Two 1 2))
+    ∷ given 1 (carrying true 0x55 0x00 (Two 1 2))
+    ∷ given 1 (carrying true 0x55 0x08 (Two 1 2))
+    ∷ given 1 (carrying true 0x07 0x00 (Two 1 2))
+    ∷ given 0 (carrying true 0x55 0x00 (One 1))
+    ∷ given 0 (carrying true 0x03 0x08 (One 1))
+    -- "or with the mode off"
+    ∷ given 1 (carrying false 0x03 0x00 (Two 1 2))
+    ∷ given 1 (carrying false 0x66 0x00 (Two 1 2))
+    ∷ given 0 (carrying false 0x66 0x00 (One 1))
     ∷ []
 
 -- The limits of COUNT_HIGH: "above 2^63"; of the pixel bytes only the current record's.

@@ -4,4 +4,5 @@ pub mod Same
 pub mod Cases
 pub mod Swreset
 pub mod Profiles
+pub mod Former
 pub mod Answered

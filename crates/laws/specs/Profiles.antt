@@ -10,7 +10,8 @@ use Rattle.codes.specs.Codes.{kindOf}
 use Rattle.lists.specs.Fixed.{places, used, pushAll}
 use Rattle.lists.specs.declared.Warning.{Warning}
 use Rattle.timing.specs.Lint.{breaks1, breaks2, breaks3, only}
-use Rattle.board.specs.Board.{strictSet}
+use Rattle.board.specs.Board.{switchSet, strictSet}
+use Rattle.board.specs.declared.PanelConfig.{PanelConfig}
 use Rattle.status.specs.Numbers.{unlessRefused}
 use Rattle.st7789.specs.Parts.{warningsOf, withController, withCfg, withWarnings}
 use Rattle.st7789.specs.Command.{warning, afterLint, released}
@@ -24,7 +25,7 @@ use Rattle.st7789.specs.declared.St7789p3.{St7789p3}
 abbrev pub threeRules : ℕ → ℕ → Controller → List ℕ
 threeRules c t k =
     only (breaks1 (k .chip .times) (kindOf c) t) 1
-    ++ (only (breaks2 (k .chip .times) (kindOf c) t) 2 ++ only (breaks3 (k .chip .registers .colmod) (kindOf c)) 3)
+    ++ (only (breaks2 (k .chip .times) (kindOf c) t) 2 ++ only (breaks3 (k .cfg .formats) (k .chip .registers .colmod) (kindOf c)) 3)
 
 -- "all warnings are as before": the begin of a command, a segment and a transfer by these rules, everything else as it is.
 abbrev pub begunBefore : ℕ → ℕ → St7789p3 → St7789p3
@@ -38,6 +39,10 @@ movedBefore t dc bytes cs s =
 abbrev pub transferredBefore : PanelMemory → ℕ → Bool → List ℕ → Bool → ℕ → St7789p3 → St7789p3
 transferredBefore memory t dc bytes cs cells s =
     unlessRefused (refusalWith memory s cells (length bytes)) (movedBefore t dc bytes cs s) s
+
+-- What is chosen when a panel is made: its configuration but for the switch, which can be set.
+abbrev pub chosen : St7789p3 → PanelConfig
+chosen s = switchSet false (s .controller .cfg)
 
 -- A panel but for its warnings and its profile: as if nothing had been warned of, under plain.
 abbrev pub unwarned : St7789p3 → St7789p3

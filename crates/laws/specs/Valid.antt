@@ -3,6 +3,8 @@ use Prim.Native.Nat.{ℕ, _+_, _^_, _≤_, _<_}
 use mathlib.Core.Path.{_≡_}
 use mathlib.Core.Bool.{false}
 use lib.ListN.{length, getD}
+use Rattle.formats.specs.Formats.{carryBad}
+use Rattle.formats.specs.declared.Format.the-variants.{HighFirst}
 use Rattle.lists.specs.Fixed.{places}
 use Rattle.st7789.specs.Data.{noRecord}
 use Rattle.st7789.specs.Refusals.{badState, pixelsHeld}
@@ -15,10 +17,16 @@ pub record Sized (s : St7789p3) : Type 0 where
   pub each : (i : ℕ) → i < places → length (getD (s .records) i noRecord .params .bytes) ≡ 14
   pub warnings : length (s .warnings) ≡ places
 
--- A good state: not BAD_STATE, with arrays of the lengths that the types say.
+-- A state that is not BAD_STATE, with arrays of the lengths that the types say.
+pub record Fine (s : St7789p3) : Type 0 where
+  pub sized : Sized s
+  pub fine : badState s ≡ false
+
+-- A good state: such a one, in which two bytes wait in a run alone. Else data for COLMOD could change the format while they wait.
 pub record Good (s : St7789p3) : Type 0 where
   pub sized : Sized s
   pub fine : badState s ≡ false
+  pub quiet : s .controller .chip .decoder .«in_pixels» ≡ false → carryBad HighFirst (s .controller .chip .walk .carry) ≡ false
 
 -- The pixel bytes of the current record.
 abbrev pub heldBy : St7789p3 → ℕ

@@ -1,4 +1,4 @@
--- Every public operation of digests, status, geometry, marks, pixels, engine, lists, codes, timing, board and chip: its promise, which is its contract, leaves no room.
+-- Every public operation of digests, status, formats, geometry, marks, pixels, engine, blocks, lists, codes, timing, board and chip: its promise, which is its contract, leaves no room.
 use mathlib.Core.Path.{refl}
 use Rattle.digests.proofs.digest as digest
 use Rattle.status.proofs.number as number
@@ -7,6 +7,11 @@ use Rattle.status.proofs.some_high as some-high
 use Rattle.status.proofs.memory_status as memory-status
 use Rattle.status.proofs.view_status as view-status
 use Rattle.status.proofs.transfer_status as transfer-status
+use Rattle.formats.proofs.bytewise.joined as joined
+use Rattle.formats.proofs.bytewise.arrive as arrive
+use Rattle.formats.proofs.in_force.is_other as is-other
+use Rattle.formats.proofs.in_force.format_of as format-of
+use Rattle.formats.proofs.in_force.carry_bad as carry-bad
 use Rattle.geometry.proofs.col_max as col-max
 use Rattle.geometry.proofs.row_max as row-max
 use Rattle.geometry.proofs.map as map
@@ -23,12 +28,11 @@ use Rattle.marks.proofs.Marks.mark_rows as mark-rows
 use Rattle.marks.proofs.Marks.span as span
 use Rattle.marks.proofs.Marks.bad as marks-bad
 use Rattle.pixels.proofs.Totals.none as totals-none
-use Rattle.pixels.proofs.bytewise.joined as joined
-use Rattle.pixels.proofs.bytewise.arrive as arrive
 use Rattle.pixels.proofs.store_at as store-at
 use Rattle.pixels.proofs.write_pixels as write-bytes
 use Rattle.pixels.proofs.clear as clear
 use Rattle.engine.proofs.write_pixels as write-pixels
+use Rattle.blocks.proofs.write_pixels as write-blocks
 use Rattle.lists.proofs.Params.empty as empty
 use Rattle.lists.proofs.Params.append as append
 use Rattle.lists.proofs.Params.differs as differs
@@ -52,6 +56,7 @@ use Rattle.timing.proofs.Times.anew as times-anew
 use Rattle.timing.proofs.Times.after as after
 use Rattle.board.proofs.PanelConfig.new as config-new
 use Rattle.board.proofs.PanelConfig.with_strict as config-strict
+use Rattle.board.proofs.PanelConfig.with_formats as config-formats
 use Rattle.board.proofs.PanelConfig.set_invon_shows_ram as config-set
 use Rattle.board.proofs.Power.fresh as power-fresh
 use Rattle.board.proofs.Power.set_powered as power-set-powered
@@ -140,6 +145,15 @@ joined-one κs args x y u v p q = (same p q, refl)
 pub arrive-one : Only arrive.ended arrive.Reads.Learnt
 arrive-one κs args x y u v p q = (same p q, refl)
 
+pub is-other-one : Only is-other.ended is-other.Reads.Learnt
+is-other-one κs args x y u v p q = (same p q, refl)
+
+pub format-of-one : Only format-of.ended format-of.Reads.Learnt
+format-of-one κs args x y u v p q = (same p q, refl)
+
+pub carry-bad-one : Only carry-bad.ended carry-bad.Reads.Learnt
+carry-bad-one κs args x y u v p q = (same p q, refl)
+
 pub site-one : Only site.ended site.Reads.Learnt
 site-one κs args x y u v p q = (same p q, refl)
 
@@ -151,6 +165,9 @@ write-bytes-one κs args x y u v p q = (same (p .0) (q .0), λ i. (tt, (tt, (tt,
 
 pub write-pixels-one : Only write-pixels.ended write-pixels.Reads.Learnt
 write-pixels-one κs args x y u v p q = (same (p .0) (q .0), λ i. (tt, (tt, (tt, (tt, (same (p .1) (q .1) i, tt))))))
+
+pub write-blocks-one : Only write-blocks.ended write-blocks.Reads.Learnt
+write-blocks-one κs args x y u v p q = (same (p .0) (q .0), λ i. (tt, (tt, (tt, (tt, (same (p .1) (q .1) i, tt))))))
 
 pub clear-one : Only clear.ended clear.Reads.Learnt
 clear-one κs args x y u v p q = (refl, λ i. (same p q i, tt))
@@ -223,6 +240,9 @@ config-new-one κs args x y u v p q = (same p q, refl)
 
 pub config-strict-one : Only config-strict.ended config-strict.Reads.Learnt
 config-strict-one κs args x y u v p q = (same p q, refl)
+
+pub config-formats-one : Only config-formats.ended config-formats.Reads.Learnt
+config-formats-one κs args x y u v p q = (same p q, refl)
 
 pub config-set-one : Only config-set.ended config-set.Reads.Learnt
 config-set-one κs args x y u v p q = (same p q, refl)

@@ -1,38 +1,48 @@
 -- Every worked example passes, by computing it; and so for whatever keeps the promises of a transfer and of dimming.
-use Prim.Native.Nat.{ℕ, _/_}
+use Prim.Native.Nat.{ℕ}
 use mathlib.Core.Path.{_≡_, refl, sym, ap, ap₂, _∙_}
 use mathlib.Core.Bool.{Bool, true, false, cond}
 use mathlib.Core.List.{List, [], _∷_, _++_, map}
 use native.Mathlib.Omega.{arith}
 use lib.Dec.{eqb}
 use lib.ListN.{length, length-replicate}
+use Rattle.formats.specs.Bytes.{pixelsOf}
+use Rattle.formats.specs.declared.Carry.the-variants.{Empty}
+use Rattle.formats.specs.declared.Format.the-variants.{HighFirst}
+use Rattle.formats.proofs.Waiting.{pixels-whole}
 use Rattle.pixels.specs.Run.{written, added}
-use Rattle.pixels.specs.declared.Carry.the-variants.{Empty}
 use Rattle.pixels.specs.declared.Totals.{Totals}
 use Rattle.pixels.proofs.Stores.{written-length}
-use Rattle.pixels.proofs.OnPanel.{on-panel-stored, half-complete}
+use Rattle.pixels.proofs.OnPanel.{on-panel-stored}
 use Rattle.st7789.specs.Data.{dataIn, storesIn, totalsIn}
 use Rattle.st7789.specs.Refusals.{transferRefusal}
 use Rattle.st7789.specs.Entries.{transferred, transferTotals, transferMemory}
 use Rattle.light.specs.Light.{dimmed}
 use Rattle.st7789.specs.declared.St7789p3.{St7789p3}
 use Rattle.laws.proofs.Answers.{answers-cut}
-use Rattle.no_room.specs.Panels.{Call, Panel, fresh, after}
-use Rattle.no_room.specs.Examples.{rows, allPass, timed, allWarn, outcomes, totalled, answersBy, answersFrom, flushing}
+use Rattle.no_room.specs.Panels.{Call, Panel, fresh, reading, after}
+use Rattle.no_room.specs.Examples.{rows, allPass, formatted, timed, allWarn, outcomes, totalled, answersBy, answersFrom, flushing}
 use Rattle.no_room.specs.Kept.{Transfer, KeepsTransfer, leftBy, Dim, KeepsDim}
 use Rattle.no_room.proofs.Model.{model}
 use Rattle.no_room.proofs.Kept.{as-promised, dim-as-promised}
 
-pub all-pass : allPass after (rows dimmed) ≡ true
+pub all-pass : allPass fresh after (rows dimmed) ≡ true
 unfolding rows model
 all-pass = refl
+
+pub all-formatted : allPass reading after formatted ≡ true
+unfolding formatted model
+all-formatted = refl
 
 pub all-warn : allWarn after timed ≡ true
 unfolding timed model
 all-warn = refl
 
-pub all-passed-by : (f : Transfer) (g : Dim) → KeepsTransfer f → KeepsDim g → allPass (leftBy f) (rows g) ≡ true
-all-passed-by f g keeps dims = ap₂ (λ make dim. allPass make (rows dim)) (as-promised f keeps) (dim-as-promised g dims) ∙ all-pass
+pub all-passed-by : (f : Transfer) (g : Dim) → KeepsTransfer f → KeepsDim g → allPass fresh (leftBy f) (rows g) ≡ true
+all-passed-by f g keeps dims = ap₂ (λ make dim. allPass fresh make (rows dim)) (as-promised f keeps) (dim-as-promised g dims) ∙ all-pass
+
+pub all-formatted-by : (f : Transfer) → KeepsTransfer f → allPass reading (leftBy f) formatted ≡ true
+all-formatted-by f keeps = ap (λ make. allPass reading make formatted) (as-promised f keeps) ∙ all-formatted
 
 pub all-warned-by : (f : Transfer) → KeepsTransfer f → allWarn (leftBy f) timed ≡ true
 all-warned-by f keeps = ap (λ make. allWarn make timed) (as-promised f keeps) ∙ all-warn
@@ -72,11 +82,12 @@ module _ (bytes : List ℕ) (full : length bytes ≡ 153600) where
   pub full-flush : totalsIn true bytes (flushing .state .controller) ≡ outcomes 76800 0 0
   unfolding model
   full-flush =
-      on-panel-stored (record { window = record { xs = 0; xe = 239; ys = 0; ye = 319 }; madctl = 0 })
+      let all : length (pixelsOf HighFirst Empty bytes) ≡ 76800 = omega (arith, pixels-whole HighFirst Empty bytes refl, full) in
+      on-panel-stored (record { window = record { xs = 0; xe = 239; ys = 0; ye = 319 }; madctl = 0; format = HighFirst })
       (record { upright = refl; xs = omega arith; xe = omega arith; ys = omega arith; ye = omega arith })
       (record { pointer = record { x = 0; y = 0 }; carry = Empty })
       bytes (record { x = omega arith; y = omega arith })
-      ∙ ap (λ n. outcomes n 0 0) (half-complete bytes ∙ ap (λ n. n / 2) full)
+      ∙ ap (λ n. outcomes n 0 0) all
 
   pub flush-in-parts :
       (a b c : List ℕ) → a ++ (b ++ c) ≡ bytes →

@@ -1,7 +1,7 @@
 -- One name that opens every definition with which the examples compute.
+use Rattle.formats.specs.Bytes.{arrival}
 use Rattle.geometry.specs.Place.{mapOf, outcome, next}
 use Rattle.marks.specs.Rows.{noRows, allRows, mark, spanOf, marksBad}
-use Rattle.pixels.specs.Bytes.{arrival}
 use Rattle.pixels.specs.Run.{stores, walkAfter, pixelsCounted, totalsOf}
 use Rattle.codes.specs.Codes.{kindOf, needOf}
 use Rattle.lists.specs.Params.{filled, differ}

@@ -1,13 +1,14 @@
 -- Examples: 01's worked examples as rows of one table: the transfers made on a fresh panel, and a test of what they leave; of dimming, a
--- test of what it answers. Those of Q-14 as rows of another, each under both profiles, and those of Q-3 as rows of a third.
+-- test of what it answers. Those of Q-14 as rows of another, each under both profiles, those of Q-3 as rows of a third, and those of Q-5 as
+-- rows of a fourth.
 use Prim.Native.Nat.{ℕ, _+_, _*_}
 use mathlib.Core.Bool.{Bool, true, false, not, _&&_}
 use mathlib.Core.List.{List, [], _∷_, _++_, foldl, map}
 use lib.ListN.{getD, take, replicate}
 use lib.Dec.{eqb}
 use Rattle.pixels.specs.declared.Totals.{Totals}
-use Rattle.pixels.specs.declared.Carry.{Carry}
-use Rattle.pixels.specs.declared.Carry.the-variants.{Empty, High}
+use Rattle.formats.specs.declared.Carry.{Carry}
+use Rattle.formats.specs.declared.Carry.the-variants.{Empty, One, Two}
 use Rattle.marks.specs.Rows.{spanOf}
 use Rattle.marks.specs.declared.Span.{Span}
 use Rattle.marks.specs.declared.Span.the-variants.{Rows}
@@ -30,10 +31,10 @@ pub record Row : Type 0 where
   pub calls : List Call
   pub passes : Panel → Bool
 
--- The rows all pass, for a way to make a call.
-abbrev pub allPass : (Panel → Call → Panel) → List Row → Bool
-allPass make [] = true
-allPass make (row ∷ rest) = row .passes (foldl make fresh (row .calls)) && allPass make rest
+-- The rows all pass from a panel on, for a way to make a call.
+abbrev pub allPass : Panel → (Panel → Call → Panel) → List Row → Bool
+allPass p make [] = true
+allPass p make (row ∷ rest) = row .passes (foldl make p (row .calls)) && allPass p make rest
 
 -- A segment of commands, at a time in nanoseconds.
 abbrev pub commandsAt : ℕ → List ℕ → Call
@@ -80,14 +81,15 @@ isRows first last (Rows a b) = eqb a first && eqb b last
 abbrev pub span : ℕ → ℕ → Panel → Bool
 span first last p = isRows first last (spanOf (p .state .controller .marks))
 
--- A carry is this byte.
-abbrev pub isHigh : ℕ → Carry → Bool
-isHigh b Empty = false
-isHigh b (High a) = eqb a b
+-- The bytes of a carry, in their order.
+abbrev pub bytesOf : Carry → List ℕ
+bytesOf Empty = []
+bytesOf (One a) = a ∷ []
+bytesOf (Two a b) = a ∷ b ∷ []
 
--- This byte waits.
-abbrev pub carry : ℕ → Panel → Bool
-carry b p = isHigh b (p .state .controller .chip .walk .carry)
+-- These bytes wait.
+abbrev pub carry : List ℕ → Panel → Bool
+carry bytes p = sameNumbers (bytesOf (p .state .controller .chip .walk .carry)) bytes
 
 -- The window has these columns.
 abbrev pub columns : ℕ → ℕ → Panel → Bool
@@ -251,6 +253,82 @@ totalled =
     }
     ∷ []
 
+-- One command with its parameters.
+abbrev pub sent : ℕ → List ℕ → List Call
+sent c bytes = command c ∷ segment bytes ∷ []
+
+-- The segments of a run, one after the other.
+abbrev pub drawn : List (List ℕ) → List Call
+drawn segments = command 0x2C ∷ map segment segments
+
+-- Q-5, on a panel whose mode is on. A fresh COLMOD, 66, names 18 bits.
+unfoldable pub formatted : List Row
+formatted =
+    -- "18-bit takes three bytes, the upper six bits of each; red and blue lose their lowest bit."
+    record { calls = drawn ((0xFC ∷ 0x00 ∷ 0x00 ∷ []) ∷ []); passes = λ p. holds 0 0xF800 p && pointer 1 0 p && carry [] p }
+    ∷ record { calls = drawn ((0x00 ∷ 0xFC ∷ 0x00 ∷ []) ∷ []); passes = holds 0 0x07E0 }
+    -- the lowest bit of red, and the two that no format takes
+    ∷ record { calls = drawn ((0x07 ∷ 0x03 ∷ 0x07 ∷ []) ∷ []); passes = λ p. nothingStored p && pixels 1 p }
+    -- cut after each byte
+    ∷ record {
+      calls = drawn ((0xFC ∷ []) ∷ (0x00 ∷ []) ∷ (0x00 ∷ []) ∷ []);
+      passes = λ p. holds 0 0xF800 p && pixels 1 p;
+    }
+    ∷ record { calls = drawn ((0xFC ∷ []) ∷ (0x00 ∷ []) ∷ []); passes = λ p. nothingStored p && carry (0xFC ∷ 0x00 ∷ []) p }
+    -- "12-bit takes three bytes for two pixels, each stored when its last bit arrives": at the second byte, and at the third
+    ∷ record {
+      calls = sent 0x3A (0x03 ∷ []) ++ drawn ((0xF0 ∷ 0x00 ∷ []) ∷ []);
+      passes = λ p. holds 0 0xF800 p && pixels 1 p && carry (0xF0 ∷ 0x00 ∷ []) p;
+    }
+    ∷ record {
+      calls = sent 0x3A (0x03 ∷ []) ++ drawn ((0xF0 ∷ 0x00 ∷ 0xF0 ∷ []) ∷ []);
+      passes = λ p. holds 0 0xF800 p && holds 1 0x07E0 p && pointer 2 0 p && carry [] p;
+    }
+    -- cut after each byte
+    ∷ record {
+      calls = sent 0x3A (0x03 ∷ []) ++ drawn ((0xF0 ∷ []) ∷ (0x00 ∷ []) ∷ (0xF0 ∷ []) ∷ []);
+      passes = λ p. holds 0 0xF800 p && holds 1 0x07E0 p;
+    }
+    -- "widened by repeating top bits": 1 to 2 and 4, 8 to 17 and 34
+    ∷ record {
+      calls = sent 0x3A (0x03 ∷ []) ++ drawn ((0x11 ∷ 0x18 ∷ 0x88 ∷ []) ∷ []);
+      passes = λ p. holds 0 0x1082 p && holds 1 0x8C51 p;
+    }
+    -- 3C with one and with two bytes waiting goes on; 2C drops them
+    ∷ record {
+      calls = drawn ((0xFC ∷ []) ∷ []) ++ (command 0x3C ∷ segment (0x00 ∷ 0x00 ∷ []) ∷ []);
+      passes = holds 0 0xF800;
+    }
+    ∷ record {
+      calls = drawn ((0xFC ∷ 0x00 ∷ []) ∷ []) ++ (command 0x3C ∷ segment (0x00 ∷ []) ∷ []);
+      passes = holds 0 0xF800;
+    }
+    ∷ record {
+      calls = drawn ((0xFC ∷ 0x00 ∷ []) ∷ []) ++ drawn ((0x00 ∷ []) ∷ []);
+      passes = λ p. nothingStored p && carry (0x00 ∷ []) p;
+    }
+    -- "In 16-bit, RAMCTRL's ENDIAN bit (08 of the second parameter) turns the byte order.": of the second, and not of the first
+    ∷ record {
+      calls = sent 0x3A (0x55 ∷ []) ++ (sent 0xB0 (0x00 ∷ 0x08 ∷ []) ++ drawn ((0x00 ∷ 0xF8 ∷ []) ∷ []));
+      passes = λ p. holds 0 0xF800 p && warns [] p;
+    }
+    ∷ record {
+      calls = sent 0x3A (0x55 ∷ []) ++ (sent 0xB0 (0x08 ∷ 0xF7 ∷ []) ++ drawn ((0xF8 ∷ 0x00 ∷ []) ∷ []));
+      passes = holds 0 0xF800;
+    }
+    -- "others as 16-bit", and "lint rule 3 fires only for the others"
+    ∷ record {
+      calls = sent 0x3A (0x07 ∷ []) ++ drawn ((0xF8 ∷ 0x00 ∷ []) ∷ []);
+      passes = λ p. holds 0 0xF800 p && warns (3 ∷ []) p;
+    }
+    ∷ record { calls = drawn [] ++ (sent 0x3A (0x03 ∷ []) ++ drawn []); passes = warns [] }
+    -- "kept by every reset": SWRESET leaves COLMOD too
+    ∷ record {
+      calls = command 0x01 ∷ drawn ((0xFC ∷ 0x00 ∷ 0x00 ∷ []) ∷ []);
+      passes = holds 0 0xF800;
+    }
+    ∷ []
+
 -- A fresh panel in a run over its full window: a full flush is 153,600 bytes from here on.
 abbrev pub flushing : Panel
 flushing = after fresh (command 0x2C)
@@ -324,7 +402,7 @@ rows dim =
     }
     ∷ record {
       calls = command 0x2C ∷ lastSegment (0xF8 ∷ []) ∷ command 0x3C ∷ segment (0x00 ∷ []) ∷ [];
-      passes = λ p. nothingStored p && carry 0x00 p;
+      passes = λ p. nothingStored p && carry (0x00 ∷ []) p;
     }
     -- The boot rows at their delays from 0: one warning, rule 2 at 20 ms; comparison matches; D0 holds A4 A1
     ∷ record {

@@ -4,7 +4,8 @@ use Prim.Native.Nat.{ℕ}
 use mathlib.Core.Bool.{Bool, true, false}
 use mathlib.Core.List.{List}
 use lib.ListN.{length, replicate}
-use Rattle.board.specs.Board.{switchedTo, strictSet}
+use Rattle.board.specs.Board.{switchedTo, strictSet, formatsSet}
+use Rattle.board.specs.declared.PanelConfig.{PanelConfig}
 use Rattle.st7789.specs.Entries.{freshPanel, transferred, transferMemory}
 use Rattle.st7789.specs.declared.St7789p3.{St7789p3}
 
@@ -20,12 +21,19 @@ pub record Panel : Type 0 where
   pub state : St7789p3
   pub memory : List ℕ
 
--- "fresh panel unless said", under the strict profile or the plain one.
+-- A panel made so, with memory of zeros.
+abbrev pub made : PanelConfig → Panel
+made cfg = record { state = freshPanel cfg; memory = replicate 76800 0 }
+
+-- "fresh panel unless said", under the strict profile or the plain one; and one that reads the other formats.
 abbrev pub freshUnder : Bool → Panel
-freshUnder strict = record { state = freshPanel (strictSet strict (switchedTo true)); memory = replicate 76800 0 }
+freshUnder strict = made (strictSet strict (switchedTo true))
 
 abbrev pub fresh : Panel
 fresh = freshUnder false
+
+abbrev pub reading : Panel
+reading = made (formatsSet true (switchedTo true))
 
 -- The panel after a call, as `transfer` promises it.
 abbrev pub after : Panel → Call → Panel

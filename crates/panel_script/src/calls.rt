@@ -166,9 +166,10 @@ fn long(n: u64) -> u32 {
     if n < 4294967296 { n as u32 } else { 0 }
 }
 
-fn config(switch: u64, strict: u64) -> PanelConfig {
+fn config(switch: u64, strict: u64, formats: u64) -> PanelConfig {
     let plain = PanelConfig::new(switch == 1);
-    plain.with_strict(strict == 1)
+    let profiled = plain.with_strict(strict == 1);
+    profiled.with_formats(formats == 1)
 }
 
 // What is switched; any other call leaves the controller as it is.
@@ -204,7 +205,7 @@ pub(crate) fn run(
     match call {
         forms::TRANSFER | forms::BARE | forms::TOTALS => send(panel, read, bytes, memory),
         forms::RESET => answered(panel.reset(domain(n[1]), memory)),
-        forms::FRESH => answered(St7789p3::new(config(n[1], n[2]), memory)),
+        forms::FRESH => answered(St7789p3::new(config(n[1], n[2], n[3]), memory)),
         forms::PUBLISH => publish(panel, memory, frame),
         forms::TAKE_WARNINGS => take_warnings(panel),
         forms::MEMORY => {

@@ -8,9 +8,9 @@ use board::Power;
 use chip::Chip;
 use chip::Decoder;
 use chip::InForce;
+use formats::Carry;
 use lists::Current;
 use lists::Stored;
-use pixels::Carry;
 use st7789::Controller;
 use st7789::Counts;
 use st7789::St7789p3;
@@ -49,7 +49,7 @@ fn print_report(panel: St7789p3) {
 
 fn print_ctl(power: Power, cfg: PanelConfig) {
     print::form(
-        b"ctl 0 0 0 0 0 0\n",
+        b"ctl 0 0 0 0 0 0 0\n",
         [
             power.powered as u64,
             cfg.invon_shows_ram as u64,
@@ -57,7 +57,7 @@ fn print_ctl(power: Power, cfg: PanelConfig) {
             power.scale as u64,
             power.duty as u64,
             cfg.strict as u64,
-            0,
+            cfg.formats as u64,
             0,
         ],
     );
@@ -73,7 +73,8 @@ fn print_in_force(cmd: InForce) {
 fn print_carry(carry: Carry) {
     match carry {
         Carry::Empty => print::text(b" none"),
-        Carry::High(byte) => print::one(b" 2", byte as u64),
+        Carry::One(a) => print::one(b" 2", a as u64),
+        Carry::Two(a, b) => print::form(b" 22", [a as u64, b as u64, 0, 0, 0, 0, 0, 0]),
     }
 }
 

@@ -108,7 +108,9 @@ pub(crate) const LOST_INVERTED: usize = 47;
 
 pub(crate) const LOST_UNMAPPED: usize = 48;
 
-const NO_FIELD: usize = 49;
+pub(crate) const FORMATS: usize = 49;
+
+const NO_FIELD: usize = 50;
 
 // What can be wrong with a line, by the places in `print::bad_line`; 0 where nothing is.
 const UNKNOWN_CALL: usize = 1;
@@ -261,7 +263,7 @@ fn owed(call: usize, form: &[u8]) -> usize {
 
 fn read_call(call: usize, line: &[u8], bytes: &mut [u8]) -> Line {
     let form = words::word(
-        b"*tffb *tffb *f *f *lls * * *D *fo * *V *Vss *Ms * *Bn * *V *tffb",
+        b"*tffb *tffb *f *f *lls * * *D *foo * *V *Vss *Ms * *Bn * *V *tffb",
         call,
     );
     let read = read_form(form, line, bytes);
@@ -310,10 +312,10 @@ fn read_set(line: &[u8], traced: u8, warned: u8, bytes: &mut [u8]) -> Line {
     let name = words::word(line, 1);
     let field = kinds::place(
         name,
-        b"sleeping on inverted run applied madctl colmod ramctrl win carry cmd params stored commands ramwrs pixels dropped dirty slpout slpin trace current warnings memory frame swreset strict lost_inverted lost_unmapped",
+        b"sleeping on inverted run applied madctl colmod ramctrl win carry cmd params stored commands ramwrs pixels dropped dirty slpout slpin trace current warnings memory frame swreset strict lost_inverted lost_unmapped formats",
     );
     let form = words::word(
-        b"**f **f **f **f **f **h **h **w **ssssss -*h -*h **p **cq **t **t **t **t -*ss -*t **t -*http -*i -*rht **w **w -*t **f **t **t ***",
+        b"**f **f **f **f **f **h **h **w **ssssss -*k -*h **p **cq **t **t **t **t -*ss -*t **t -*http -*i -*rht **w **w -*t **f **t **t **f ***",
         field,
     );
     let call = SET + least(field, NO_FIELD - SET);

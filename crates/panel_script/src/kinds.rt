@@ -73,6 +73,18 @@ fn flag_or_none(word: &[u8]) -> Number {
     flag(word)
 }
 
+// One byte or two in hex; two of them from 65536 on.
+fn one_or_two(word: &[u8]) -> Number {
+    if word.len() == 4 {
+        let two = numbers::hex(word, 4);
+        return Number {
+            value: 65536 + short(two.value) as u64,
+            good: two.good,
+        };
+    }
+    numbers::hex(word, 2)
+}
+
 // Any other letter takes any word.
 pub(crate) fn read(kind: u8, word: &[u8]) -> Number {
     match kind {
@@ -80,6 +92,7 @@ pub(crate) fn read(kind: u8, word: &[u8]) -> Number {
         b'o' => flag_or_none(word),
         b'h' => numbers::hex(word, 2),
         b'w' => numbers::hex(word, 4),
+        b'k' => one_or_two(word),
         b'c' => within(stored(word), 0, 11),
         b'r' => within(numbers::decimal(word, 4), 1, 4),
         b'i' => numbers::decimal(word, 255),

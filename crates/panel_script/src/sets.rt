@@ -7,6 +7,7 @@ use chip::Chip;
 use chip::Decoder;
 use chip::InForce;
 use chip::Registers;
+use formats::Carry;
 use geometry::Pointer;
 use geometry::Window;
 use lists::Current;
@@ -17,7 +18,6 @@ use lists::TraceRecord;
 use lists::Warning;
 use marks::Marks;
 use marks::Span;
-use pixels::Carry;
 use pixels::Walk;
 use st7789::Controller;
 use st7789::Counts;
@@ -79,10 +79,13 @@ fn carry(none: bool, n: u64) -> Carry {
     if none {
         return Carry::Empty;
     }
-    Carry::High(kinds::byte(n))
+    if n < 256 {
+        return Carry::One(kinds::byte(n));
+    }
+    Carry::Two(kinds::byte(n / 256 % 256), kinds::byte(n % 256))
 }
 
-// set win, set carry HH
+// set win, set carry HH or HHHH
 fn walk(old: Walk, field: usize, none: bool, n: [u64; 8]) -> Walk {
     let pointer = Pointer {
         x: kinds::short(n[6]),
@@ -220,12 +223,13 @@ fn logs(old: Logs, field: usize, none: bool, n: u64) -> Logs {
     }
 }
 
-// set strict B
+// set strict B, set formats B
 fn config(old: PanelConfig, field: usize, n: u64) -> PanelConfig {
-    if field == forms::STRICT {
-        return old.with_strict(n == 1);
+    match field {
+        forms::STRICT => old.with_strict(n == 1),
+        forms::FORMATS => old.with_formats(n == 1),
+        _ => old,
     }
-    old
 }
 
 fn controller(old: Controller, read: Line, params: Params) -> Controller {

@@ -10,9 +10,8 @@ use lib.ListN.{length, length-append}
 use Rattle.geometry.specs.Place.{has, largestColumn, largestRow, cellAt, mapOf, isInverted, placed, outcome, next}
 use Rattle.geometry.specs.declared.Pointer.{Pointer}
 use Rattle.geometry.specs.declared.Site.{Site}
-use Rattle.pixels.specs.declared.Carry.the-variants.{Empty}
 use Rattle.pixels.specs.declared.Walk.{Walk}
-use Rattle.pixels.specs.Bytes.{arrival, pixelsOf}
+use Rattle.formats.specs.Bytes.{pixelsOf}
 use Rattle.pixels.specs.Run.{onward, storeOf, storesOf, totalsOf, totals}
 use Rattle.pixels.proofs.Sums.{totals-equal}
 
@@ -63,15 +62,8 @@ module _ (site : Site) (within : WindowOnPanel site) where
 
   pub on-panel-stored :
       (k : Walk) (bytes : List ℕ) → PointerOnPanel (site .madctl) (k .pointer) →
-      totals site k bytes ≡ record { stored = length (pixelsOf (k .carry) bytes); inverted = 0; unmapped = 0 }
+      totals site k bytes ≡ record { stored = length (pixelsOf (site .format) (k .carry) bytes); inverted = 0; unmapped = 0 }
   unfolding totalsOf
   on-panel-stored k bytes on =
-      let all = all-stored (k .pointer) (pixelsOf (k .carry) bytes) on in
+      let all = all-stored (k .pointer) (pixelsOf (site .format) (k .carry) bytes) on in
       rw (within .upright) (totals-equal all refl (omega (arith, all)))
-
--- Where no byte waits, bytes complete half as many pixels.
-pub half-complete : (bytes : List ℕ) → length (pixelsOf Empty bytes) ≡ length bytes / 2
-unfolding arrival
-half-complete [] = refl
-half-complete (b ∷ []) = refl
-half-complete (b ∷ c ∷ bytes) = let e = half-complete bytes in omega (arith, e)

@@ -16,9 +16,10 @@ use Rattle.marks.specs.declared.Marks.{Marks}
 use Rattle.pixels.specs.declared.Totals.{Totals}
 use Rattle.pixels.specs.declared.Walk.{Walk}
 use Rattle.pixels.specs.declared.Walked.{Walked}
-use Rattle.pixels.specs.Bytes.{pixelsOf, carryAfter}
+use Rattle.formats.specs.Bytes.{pixelsOf, carryAfter}
 use Rattle.pixels.specs.Run.{onward, counted, pointerAfter, storeOf, storesOf, stores, walkAfter, pixelsCounted, adds, added, noTotals, together, totalsOf, totals, walkedOn, unwalked}
-use Rattle.pixels.proofs.Laws.{pixels-cut, walk-cut, stores-cut, pixels-few}
+use Rattle.formats.proofs.Cuts.{pixels-cut, pixels-few}
+use Rattle.pixels.proofs.Laws.{walk-cut, stores-cut}
 
 pub totals-equal :
     {a a′ b b′ c c′ : ℕ} → a ≡ a′ → b ≡ b′ → c ≡ c′ →
@@ -96,25 +97,25 @@ pub totals-cut :
     (site : Site) (a b : List ℕ) (k : Walk) → totals site k (a ++ b) ≡ added (totals site k a) (totals site (walkAfter site k a) b)
 unfolding walkAfter
 totals-cut site a b k =
-    ap (totalsOf site (k .pointer)) (pixels-cut a b (k .carry)) ∙
-    totals-of-cut site (pixelsOf (k .carry) a) (pixelsOf (carryAfter (k .carry) a) b) (k .pointer)
+    ap (totalsOf site (k .pointer)) (pixels-cut (site .format) a b (k .carry)) ∙
+    totals-of-cut site (pixelsOf (site .format) (k .carry) a) (pixelsOf (site .format) (carryAfter (site .format) (k .carry) a) b) (k .pointer)
 
 module _ (site : Site) (k : Walk) (bytes : List ℕ) where
   -- Stored and unmapped together are what is counted.
   pub totals-counted : totals site k bytes .stored + totals site k bytes .unmapped ≡ pixelsCounted site k bytes
   unfolding totalsOf pixelsCounted
-  totals-counted = omega (arith, stored-few site (k .pointer) (pixelsOf (k .carry) bytes))
+  totals-counted = omega (arith, stored-few site (k .pointer) (pixelsOf (site .format) (k .carry) bytes))
 
   -- The three together are the complete pixels.
-  pub totals-complete : together (totals site k bytes) ≡ length (pixelsOf (k .carry) bytes)
+  pub totals-complete : together (totals site k bytes) ≡ length (pixelsOf (site .format) (k .carry) bytes)
   unfolding totalsOf
-  totals-complete = go (isInverted (site .window)) (stored-few site (k .pointer) (pixelsOf (k .carry) bytes))
+  totals-complete = go (isInverted (site .window)) (stored-few site (k .pointer) (pixelsOf (site .format) (k .carry) bytes))
     where
       n : ℕ
-      n = length (pixelsOf (k .carry) bytes)
+      n = length (pixelsOf (site .format) (k .carry) bytes)
 
       l : ℕ
-      l = length (storesOf site (k .pointer) (pixelsOf (k .carry) bytes))
+      l = length (storesOf site (k .pointer) (pixelsOf (site .format) (k .carry) bytes))
 
       go : (b : Bool) → l ≤ cond b 0 n → l + cond b n 0 + (cond b 0 n - l) ≡ n
       go true few = omega arith
@@ -122,7 +123,7 @@ module _ (site : Site) (k : Walk) (bytes : List ℕ) where
 
   -- So a segment has no more of them than bytes.
   pub totals-few : together (totals site k bytes) ≤ length bytes
-  totals-few = omega (arith, totals-complete, pixels-few (k .carry) bytes)
+  totals-few = omega (arith, totals-complete, pixels-few (site .format) (k .carry) bytes)
 
 -- A segment on top of what went before, and a segment by itself.
 pub unwalked-totals : (site : Site) (k : Walk) (d : Marks) (bytes : List ℕ) → walkedOn site (unwalked k d) bytes .totals ≡ totals site k bytes

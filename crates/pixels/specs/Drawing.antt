@@ -3,7 +3,7 @@ use Prim.Native.Nat.{ℕ}
 use mathlib.Core.List.{List}
 use lib.ListN.{length}
 use Rattle.geometry.specs.declared.Site.{Site}
-use Rattle.pixels.specs.declared.Carry.{Carry}
+use Rattle.formats.specs.declared.Carry.{Carry}
 use Rattle.pixels.specs.declared.Walked.{Walked}
 use Rattle.pixels.specs.Run.{pointerAfter, storesOf, marked, added, totalsOf}
 

@@ -36,12 +36,12 @@ takenBy chip n k = withCounts (droppedAdded n (k .counts)) (withChip chip k)
 module _ (k : Controller) (bytes : List ℕ) where
   -- The chip's site, as the engine is given it.
   pub walked-at :
-      {site : Site} {w : Walked} → site ≡ siteOf (k .chip) → w ≡ walkedOn site (unwalked (k .chip .walk) (k .marks)) bytes → w ≡ walkOver k bytes
+      {site : Site} {w : Walked} → site ≡ siteOf (k .cfg .formats) (k .chip) → w ≡ walkedOn site (unwalked (k .chip .walk) (k .marks)) bytes → w ≡ walkOver k bytes
   walked-at e ew = ew ∙ ap (λ site. walkedOn site (unwalked (k .chip .walk) (k .marks)) bytes) e
 
   -- The segment's totals are its own.
-  own-totals : walkOver k bytes .totals ≡ chipTotals (k .chip) bytes
-  own-totals = unwalked-totals (siteOf (k .chip)) (k .chip .walk) (k .marks) bytes
+  own-totals : walkOver k bytes .totals ≡ chipTotals (k .cfg .formats) (k .chip) bytes
+  own-totals = unwalked-totals (siteOf (k .cfg .formats) (k .chip)) (k .chip .walk) (k .marks) bytes
 
   -- A segment has no more pixels than bytes.
   pub pixels-fit :
@@ -49,8 +49,8 @@ module _ (k : Controller) (bytes : List ℕ) where
       (k .counts .«pixels_written» + (w .totals .stored + w .totals .unmapped) < 2 ^ 64)
       × ((k .counts .inverted + w .totals .inverted < 2 ^ 64) × (k .counts .unmapped + w .totals .unmapped < 2 ^ 64))
   pixels-fit room w e =
-      let t : together (w .totals) ≡ together (chipTotals (k .chip) bytes) = ap (λ w. together (w .totals)) e ∙ ap together own-totals in
-      let h : together (w .totals) ≤ length bytes = omega (arith, t, totals-few (siteOf (k .chip)) (k .chip .walk) bytes) in
+      let t : together (w .totals) ≡ together (chipTotals (k .cfg .formats) (k .chip) bytes) = ap (λ w. together (w .totals)) e ∙ ap together own-totals in
+      let h : together (w .totals) ≤ length bytes = omega (arith, t, totals-few (siteOf (k .cfg .formats) (k .chip)) (k .chip .walk) bytes) in
       (omega (arith, h, room .pixels), (omega (arith, h, room .inverted), omega (arith, h, room .unmapped)))
 
   pub dropped-fit :
@@ -69,7 +69,7 @@ module _ (k : Controller) (bytes : List ℕ) where
       ap₂ (λ w n. ranBy w n k) ew
       (en
       ∙ ap (λ t. pixelsAdded (t .stored + t .unmapped) t (k .counts)) (ap (λ w. w .totals) ew ∙ own-totals)
-      ∙ ap (λ m. pixelsAdded m (chipTotals (k .chip) bytes) (k .counts)) (totals-counted (siteOf (k .chip)) (k .chip .walk) bytes))
+      ∙ ap (λ m. pixelsAdded m (chipTotals (k .cfg .formats) (k .chip) bytes) (k .counts)) (totals-counted (siteOf (k .cfg .formats) (k .chip)) (k .chip .walk) bytes))
       ∙ ap (λ b. dataBy b (k .chip .decoder .cmd)) (sym e)
 
   pub data-lost : k .chip .decoder .«in_pixels» ≡ false → k .chip .decoder .cmd ≡ InForce.Nothing → k ≡ controllerData bytes k
@@ -88,7 +88,7 @@ module _ (k : Controller) (bytes : List ℕ) where
       ∙ ap₂ (λ b f. dataBy b f) (sym e) (sym ec)
 
   totals-by : Bool → Totals
-  totals-by b = cond b (chipTotals (k .chip) bytes) noTotals
+  totals-by b = cond b (chipTotals (k .cfg .formats) (k .chip) bytes) noTotals
 
   pub totals-run : (w : Walked) → k .chip .decoder .«in_pixels» ≡ true → w ≡ walkOver k bytes → w .totals ≡ totalsIn true bytes k
   unfolding totals-by
@@ -100,10 +100,10 @@ module _ (k : Controller) (bytes : List ℕ) where
 
   module _ (m : List ℕ) where
     stored-by : Bool → List ℕ
-    stored-by b = written m (cond b (chipStores (k .chip) bytes) [])
+    stored-by b = written m (cond b (chipStores (k .cfg .formats) (k .chip) bytes) [])
 
     pub stores-run :
-        {site : Site} {l : List ℕ} → k .chip .decoder .«in_pixels» ≡ true → site ≡ siteOf (k .chip) →
+        {site : Site} {l : List ℕ} → k .chip .decoder .«in_pixels» ≡ true → site ≡ siteOf (k .cfg .formats) (k .chip) →
         l ≡ written m (stores site (k .chip .walk) bytes) → l ≡ written m (storesIn true bytes k)
     unfolding stored-by
     stores-run e es el = el ∙ ap (λ site. written m (stores site (k .chip .walk) bytes)) es ∙ ap stored-by (sym e)

@@ -13,8 +13,8 @@ use lib.Seq.{drop-cons}
 use Rattle.codes.specs.Codes.{kindOf, commandOf, is, hasEffect}
 use Rattle.codes.specs.declared.Kind.the-variants.{Ramwr}
 use Rattle.codes.specs.declared.Command.{Command}
-use Rattle.pixels.specs.declared.Carry.{Carry}
-use Rattle.pixels.specs.declared.Carry.the-variants.{Empty, High}
+use Rattle.formats.specs.declared.Carry.{Carry}
+use Rattle.formats.specs.declared.Carry.the-variants.{Empty, One, Two}
 use Rattle.lists.specs.Fixed.{places}
 use Rattle.lists.proofs.Bools.{neither}
 use Rattle.chip.specs.Begin.{decoderBegun}
@@ -80,7 +80,8 @@ passed m k =
 
 none-waits : (c : Carry) → waits c ≡ false → c ≡ Empty
 none-waits Empty e = refl
-none-waits (High byte) e = absurd (true≢false e)
+none-waits (One a) e = absurd (true≢false e)
+none-waits (Two a b) e = absurd (true≢false e)
 
 -- Equal parts make equal controllers.
 same-parts :

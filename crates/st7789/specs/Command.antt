@@ -1,4 +1,4 @@
--- Rules: 01, "Commands" and "Lint", and 02, Q-14: beginning a command, and the CS release. What the controller becomes, and beside it what the lists
+-- Rules: 01, "Commands" and "Lint", and 02, Q-14 and Q-5: beginning a command, and the CS release. What the controller becomes, and beside it what the lists
 -- keep.
 use Prim.Native.Nat.{ℕ, _+_}
 use mathlib.Core.Bool.{cond}
@@ -25,9 +25,9 @@ use Rattle.st7789.specs.declared.St7789p3.{St7789p3}
 abbrev pub warning : ℕ → ℕ → ℕ → Warning
 warning c t rule = record { at = t; rule = rule; cmd = c }
 
--- What c breaks at time t, under the profile that the panel is made with.
+-- What c breaks at time t, under the profile and the mode that the panel is made with.
 abbrev pub brokenWith : ℕ → ℕ → Controller → Broken
-brokenWith c t k = brokenBy (k .cfg .strict) (k .chip .times) (k .chip .registers .colmod) (kindOf c) t
+brokenWith c t k = brokenBy (k .cfg .strict) (k .cfg .formats) (k .chip .times) (k .chip .registers .colmod) (kindOf c) t
 
 -- A warning for each rule that is broken, "In that order".
 abbrev pub warningsFor : ℕ → ℕ → Controller → List Warning

@@ -1,4 +1,4 @@
--- Rules: 01, "Commands", on data, and 02, Q-3: in a run, for a command, or lost. What the controller becomes, and beside it what the
+-- Rules: 01, "Commands", on data, and 02, Q-3 and Q-5: in a run, for a command, or lost. What the controller becomes, and beside it what the
 -- lists keep, what is stored, and how many pixels went which way.
 use Prim.Native.Nat.{ℕ, _+_}
 use mathlib.Core.Bool.{Bool, true, cond, _&&_}
@@ -44,7 +44,7 @@ moreParams bytes r = record { at = r .at; «pixel_bytes» = r .«pixel_bytes»; 
 
 -- The walk of a data segment over the controller's window.
 abbrev pub walkOver : Controller → List ℕ → Walked
-walkOver k bytes = chipWalked (k .chip) (k .marks) bytes
+walkOver k bytes = chipWalked (k .cfg .formats) (k .chip) (k .marks) bytes
 
 -- The chip with the walk put anew.
 abbrev pub walkedChip : Walk → Chip → Chip
@@ -77,11 +77,11 @@ droppedAdded n k =
 -- "Data in a run:"
 unfoldable pub ran : List ℕ → Controller → Controller
 ran bytes k =
-    -- "pairs form pixels, high byte first, an odd byte waits as carry."
+    -- "pairs form pixels, high byte first, an odd byte waits as carry."; 02, Q-5: in the format in force
     let w : Walked = walkOver k bytes in
     let a : Controller = withChip (walkedChip (w .walk) (k .chip)) k in
     -- "Stored or not, pixels_written + 1"; and by cause those that vanish
-    let b : Controller = withCounts (pixelsAdded (chipCounted (k .chip) bytes) (chipTotals (k .chip) bytes) (a .counts)) a in
+    let b : Controller = withCounts (pixelsAdded (chipCounted (k .cfg .formats) (k .chip) bytes) (chipTotals (k .cfg .formats) (k .chip) bytes) (a .counts)) a in
     -- "a stored pixel widens the dirty span by its row"
     withMarks (w .marks) b
 
@@ -137,8 +137,8 @@ dataIn bytes s =
 -- What a segment stores: only data in a run does.
 abbrev pub storesIn : Bool → List ℕ → Controller → List Store
 storesIn dc bytes k =
-    cond (dc && k .chip .decoder .«in_pixels») (chipStores (k .chip) bytes) []
+    cond (dc && k .chip .decoder .«in_pixels») (chipStores (k .cfg .formats) (k .chip) bytes) []
 
 -- 02, Q-3: "a transfer shall answer its own three totals": only data in a run has pixels.
 abbrev pub totalsIn : Bool → List ℕ → Controller → Totals
-totalsIn dc bytes k = cond (dc && k .chip .decoder .«in_pixels») (chipTotals (k .chip) bytes) noTotals
+totalsIn dc bytes k = cond (dc && k .chip .decoder .«in_pixels») (chipTotals (k .cfg .formats) (k .chip) bytes) noTotals

@@ -5,8 +5,8 @@ use mathlib.Core.Bool.{Bool, true, false, cond, not, _||_}
 use mathlib.Core.List.{List, foldl}
 use lib.Dec.{ltb, eqb}
 use lib.ListN.{getD}
-use Rattle.pixels.specs.declared.Carry.{Carry}
-use Rattle.pixels.specs.declared.Carry.the-variants.{Empty, High}
+use Rattle.formats.specs.declared.Carry.{Carry}
+use Rattle.formats.specs.declared.Carry.the-variants.{Empty, One, Two}
 use Rattle.pixels.specs.Run.{Store, written}
 use Rattle.lists.specs.Fixed.{places}
 use Rattle.codes.specs.Codes.{row, kindOf, commandOf, is, hasEffect}
@@ -78,7 +78,8 @@ anyFree l = ltb (l .traced) places || ltb (l .warned) places
 -- Whether a byte waits for its pixel.
 abbrev pub waits : Carry → Bool
 waits Empty = false
-waits (High byte) = true
+waits (One a) = true
+waits (Two a b) = true
 
 -- Whether a command goes by itself: it may leave something in a list, or a byte waits.
 abbrev pub alone : Controller → Bool

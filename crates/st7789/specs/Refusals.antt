@@ -1,4 +1,4 @@
--- Rules: 01's table of refusals, when each is given.
+-- Rules: 01's table of refusals, and 02, Q-3 and Q-5, when each is given.
 use Prim.Native.Nat.{ℕ, _+_}
 use mathlib.Core.Bool.{Bool, false, not, _||_}
 use mathlib.Core.List.{List, [], _∷_}
@@ -7,7 +7,9 @@ use lib.Dec.{ltb, eqb}
 use Rattle.lists.specs.Fixed.{Fixed, places, used}
 use Rattle.lists.specs.Entries.{some, storedLong, recordLong}
 use Rattle.lists.specs.Params.{tooLong, differ}
+use Rattle.formats.specs.Formats.{carryBad}
 use Rattle.geometry.specs.Bounds.{windowBad, pointerBad}
+use Rattle.chip.specs.Site.{formatIn}
 use Rattle.marks.specs.Rows.{marksBad}
 use Rattle.status.specs.Tests.{first, transferRow, bareRow}
 use Rattle.lists.specs.declared.Params.{Params}
@@ -28,7 +30,7 @@ abbrev pub currentBad : Current → Fixed TraceRecord → Params → Bool
 currentBad Nothing trace inForce = false
 currentBad (At i) trace inForce = not (eqb (i + 1) (trace .count)) || differ (getD (trace .places) i noRecord .params) inForce
 
--- BAD_STATE, clause by clause in 01's order. What is asked of the stored lists, the used records and the current record comes in.
+-- BAD_STATE, clause by clause in 01's order, then Q-5's. What is asked of the stored lists, the used records and the current record comes in.
 abbrev pub clauses : Controller → Bool → Bool → Bool → List Bool
 clauses k stored records current =
     -- "a window corner
@@ -49,6 +51,8 @@ clauses k stored records current =
     ∷ marksBad (k .marks)
     -- a current trace record isn't the last used one, or its parameters differ from those in force"
     ∷ current
+    -- 02, Q-5: "BAD_STATE also for a carry of two bytes outside 12 and 18 bits or with the mode off."
+    ∷ carryBad (formatIn (k .cfg .formats) (k .chip)) (k .chip .walk .carry)
     ∷ []
 
 -- The clauses of a panel.

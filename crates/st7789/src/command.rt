@@ -11,11 +11,11 @@ use crate::Counts;
 use crate::Logs;
 use codes::Command;
 use codes::Kind;
+use formats::Carry;
 use lists::Current;
 use lists::PLACES;
 use lists::Params;
 use lists::TraceRecord;
-use pixels::Carry;
 use timing::Broken;
 
 impl Counts {
@@ -112,6 +112,7 @@ impl Controller {
         let kind = command.kind;
         timing::lint(
             self.cfg.strict,
+            self.cfg.formats,
             self.chip.times,
             self.chip.registers.colmod,
             kind,
@@ -150,7 +151,8 @@ impl Controller {
         let carry = walk.carry;
         match carry {
             Carry::Empty => end,
-            Carry::High(byte) => i + 1,
+            Carry::One(a) => i + 1,
+            Carry::Two(a, b) => i + 1,
         }
     }
 

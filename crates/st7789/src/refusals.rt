@@ -7,6 +7,7 @@ ghost use Rattle.status.specs.Numbers.{number};
 use crate::Controller;
 use crate::PanelMemory;
 use crate::St7789p3;
+use formats::in_force::carry_bad;
 use lists::MAX_PARAMS;
 use lists::PLACES;
 use lists::TraceRecord;
@@ -47,7 +48,16 @@ impl Controller {
         let warned = lists::over(self.logs.warned, PLACES);
         let marks = self.marks;
         let span = marks.bad();
-        corner | (at | (in_force | (stored | (records | (traced | (warned | (span | current)))))))
+        let chip = self.chip;
+        let site = chip.site(self.cfg.formats);
+        let format = site.format;
+        let walk = chip.walk;
+        let carry = walk.carry;
+        let waiting = carry_bad(format, carry);
+        corner
+            | (at
+                | (in_force
+                    | (stored | (records | (traced | (warned | (span | (current | waiting))))))))
     }
 
     // The tests of a transfer, by what was told of the lists and by the record at the current one's place.

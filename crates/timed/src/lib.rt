@@ -87,18 +87,19 @@ fn tell(refused: u64, counts: Counts, logs: Logs, out: &mut [u64; 8]) {
     out[6] = logs.warned as u64;
 }
 
-// Transfers on a fresh panel: the table's rows in order, then from row `first` on again, until there were `turns`.
+// Transfers on a fresh panel, whose mode of formats is on or off: the table's rows in order, then from row `first` on again, until there were `turns`.
 fn session(
     table: &[u64],
     bytes: &[u8],
     first: usize,
     turns: usize,
+    formats: bool,
     memory: &mut [u16],
     out: &mut [u64; 8],
 ) {
     let rows = table.len() / 4;
     let cfg = PanelConfig::new(true);
-    let panel = St7789p3::fresh(cfg);
+    let panel = St7789p3::fresh(cfg.with_formats(formats));
     let mut a = Transferred {
         panel,
         totals: Totals::none(),
@@ -138,12 +139,13 @@ pub extern "C" fn timed_transfers(
     first: usize,
     turns: usize,
     sessions: usize,
+    formats: u8,
     memory: &mut [u16],
     out: &mut [u64; 8],
 ) {
     let mut i = 0;
     while i < sessions {
-        session(table, bytes, first, turns, memory, out);
+        session(table, bytes, first, turns, formats == 1, memory, out);
         i += 1;
     }
 }

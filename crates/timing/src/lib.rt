@@ -2,8 +2,9 @@
 ghost use mathlib.Core.Path.{_≡_};
 ghost use Prim.Native.Nat.{_-_, _≤_};
 ghost use lib.ListN.{length, getD};
-ghost use Rattle.timing.specs.Lint.{soonAfter, breaks1, breaks2, breaks3, breaks4, brokenBy, only, rulesOf, freshTimes, timesAfter};
+ghost use Rattle.timing.specs.Lint.{soonAfter, breaks1, breaks2, wrongColmod, breaks3, breaks4, brokenBy, only, rulesOf, freshTimes, timesAfter};
 use codes::Kind;
+use formats::in_force::is_other;
 
 const SLPOUT_SETTLE: u64 = 5_000_000;
 
@@ -64,11 +65,21 @@ fn sleep_cycle_too_fast(times: Times, kind: Kind, t: u64) -> bool
     slept | woke
 }
 
-// RAMWR or RAMWRC while COLMOD is not 16 bits a pixel.
-fn ramwr_wrong_colmod(colmod: u8, kind: Kind) -> bool
-    ensures { λ r. ⌜ r ≡ breaks3 colmod kind ⌝ }
+// Whether COLMOD is one that pixel data is not to be sent under: with the formats read, one that names none; else any but 16 bits.
+fn wrong_colmod(formats: bool, colmod: u8) -> bool
+    ensures { λ r. ⌜ r ≡ wrongColmod formats colmod ⌝ }
 {
-    kind.starts_run() & (colmod != 0x55)
+    if formats {
+        return is_other(colmod);
+    }
+    colmod != 0x55
+}
+
+// RAMWR or RAMWRC under a wrong COLMOD.
+fn ramwr_wrong_colmod(formats: bool, colmod: u8, kind: Kind) -> bool
+    ensures { λ r. ⌜ r ≡ breaks3 formats colmod kind ⌝ }
+{
+    kind.starts_run() & wrong_colmod(formats, colmod)
 }
 
 // A command less than 5 ms after SWRESET, under the strict profile.
@@ -79,13 +90,13 @@ fn command_after_swreset(strict: bool, times: Times, t: u64) -> bool
     strict & soon_after(swreset, t, SWRESET_SETTLE)
 }
 
-// What a command of this kind breaks at time t, under the strict profile or the plain one.
-pub fn lint(strict: bool, times: Times, colmod: u8, kind: Kind, t: u64) -> Broken
-    ensures answer { λ r. ⌜ r ≡ brokenBy strict times colmod kind t ⌝ }
+// What a command of this kind breaks at time t, under the strict profile or the plain one, with the formats read or not.
+pub fn lint(strict: bool, formats: bool, times: Times, colmod: u8, kind: Kind, t: u64) -> Broken
+    ensures answer { λ r. ⌜ r ≡ brokenBy strict formats times colmod kind t ⌝ }
 {
     let rule1 = command_after_slpout(times, kind, t);
     let rule2 = sleep_cycle_too_fast(times, kind, t);
-    let rule3 = ramwr_wrong_colmod(colmod, kind);
+    let rule3 = ramwr_wrong_colmod(formats, colmod, kind);
     let rule4 = command_after_swreset(strict, times, t);
     Broken {
         rule1,

@@ -1,7 +1,7 @@
 use mathlib.Core.Path.{_≡_, sym, _∙_}
 use native.Mathlib.Omega.{arith}
+use Rattle.formats.specs.declared.Carry.the-variants.{Empty}
 use borrow.Author.Needs.{needs}
-use Rattle.pixels.specs.declared.Carry.the-variants.{Empty}
 use Rattle.st7789.proofs.Controller.reach.Statement.{statement}
 use Rattle.st7789.proofs.Controller.reach.Tie as tie
 
@@ -25,6 +25,12 @@ enum-known-carry c = search needs
 add-result-2 : tie.Need-add-result-2
 add-result-2 c = search needs
 
+enum-known-carry-2 : tie.Need-enum-known-carry-2
+enum-known-carry-2 c = search needs
+
+add-result-3 : tie.Need-add-result-3
+add-result-3 c = search needs
+
 returns-2 : tie.Need-returns-2
 returns-2 c =
     let none = sym (c .before .before .before .before .any-free .ensures) ∙ c .before .before .before .if1 .left in
@@ -36,6 +42,11 @@ returns-3 c =
     let none = sym (c .before .before .before .before .before .any-free .ensures) ∙ c .before .before .before .before .if1 .left in
     (simp (none, c .before .carry .given .1), (omega arith, omega (arith, c .before .before .before .before .before .before .before .pre)))
 
+returns-4 : tie.Need-returns-4
+returns-4 c =
+    let none = sym (c .before .before .before .before .before .any-free .ensures) ∙ c .before .before .before .before .if1 .left in
+    (simp (none, c .before .carry2 .given .1), (omega arith, omega (arith, c .before .before .before .before .before .before .before .pre)))
+
 pub reach-spec : {M : Type 1} → statement M
 reach-spec =
     tie.close
@@ -46,5 +57,8 @@ reach-spec =
     enum-told
     enum-known-carry
     add-result-2
+    enum-known-carry-2
+    add-result-3
     returns-2
-    returns-3)
+    returns-3
+    returns-4)

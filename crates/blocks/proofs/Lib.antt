@@ -1,0 +1,4 @@
+pub mod Lists
+pub mod Encoding
+pub mod Decoding
+pub mod Parts

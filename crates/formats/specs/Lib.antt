@@ -1,0 +1,3 @@
+pub mod Formats
+pub mod Bytes
+pub mod Counts

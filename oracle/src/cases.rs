@@ -33,12 +33,13 @@ impl Case {
             };
         }
         // Of 24 scripts one is long, one looks at many brightness pairs, one publishes many times, one
-        // goes by the pauses of the lint, one begins commands where the lists are full, and one has windows
-        // in which pixels vanish.
+        // goes by the pauses of the lint, one begins commands where the lists are full, one has windows in
+        // which pixels vanish, and one has runs in every pixel format.
         let input = match number % 24 {
             0 => with_dumps(&gen_scripts::script_of(own, 14)),
             3 => gen_aimed::vanishing_of(own).into_bytes(),
             6 => gen_aimed::publishing_of(own).into_bytes(),
+            9 => with_dumps(&gen_aimed::formats_of(own)),
             12 => with_dumps(&gen_aimed::dimming_of(own)),
             18 => with_dumps(&gen_aimed::pauses_of(own)),
             21 => gen_aimed::full_lists_of(own).into_bytes(),

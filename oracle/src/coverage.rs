@@ -2,6 +2,8 @@
 
 use std::collections::{BTreeMap, BTreeSet};
 
+use crate::formats::{Format, Formats};
+use crate::log::Segment;
 use crate::profile::Profile;
 use crate::refusals::{bad_clauses, high_counts};
 use crate::report::{above_full, bit, line, rule_of};
@@ -34,11 +36,17 @@ pub struct Coverage {
     madctl: BTreeMap<u8, u64>,
     /// Commands begun, by their byte.
     codes: BTreeMap<u8, u64>,
-    /// Segments of several commands that find trace and warnings full: with no byte waiting, and with one.
+    /// Segments of several commands that find trace and warnings full: with no byte waiting, and with one
+    /// or two.
     together: [u64; 2],
-    /// Data segments of a run that leave a byte waiting, and those that find one waiting.
+    /// Data segments of a run with the mode off that leave a byte waiting, and those that find one waiting.
     left_waiting: u64,
     found_waiting: u64,
+    /// Data segments of a run with the mode on (Q-5): by format, and by how many bytes wait before them.
+    formats: [u64; 4],
+    waited: [u64; 3],
+    /// MADCTL values under which such a segment stored a pixel.
+    formats_madctl: BTreeSet<u8>,
     /// Looks at Perceived of a lit panel that were answered: not above full brightness, and above it.
     perceived: [u64; 2],
     /// Whether the line that runs is such a look, and above full.
@@ -75,7 +83,7 @@ impl Coverage {
     }
 
     /// Looks at the state before a line of a script.
-    pub fn before(&mut self, panel: &St7789p3, lost: &Lost, words: &[&[u8]]) {
+    pub fn before(&mut self, panel: &St7789p3, formats: &Formats, lost: &Lost, words: &[&[u8]]) {
         let looks = match words {
             [b"view" | b"pixels" | b"pixel", b"perceived", ..] | [b"dump"] => panel.lit(),
             _ => false,
@@ -86,13 +94,18 @@ impl Coverage {
         }
         let call = text(words[0]);
         if ["transfer", "bare", "publish"].contains(&call.as_str()) {
-            for clause in bad_clauses(panel) {
+            let clauses = bad_clauses(panel, formats);
+            for clause in &clauses {
                 self.met.insert(format!("{call} bad state: {clause}"));
             }
             let counts = high_counts(panel, lost);
-            for count in counts.iter().filter(|_| bad_clauses(panel).is_empty()) {
+            for count in counts.iter().filter(|_| clauses.is_empty()) {
                 self.met.insert(format!("{call} high count: {count}"));
             }
+            let (waiting, format) = (formats.waiting(panel).len(), Format::of(panel));
+            let mode = formats.on;
+            self.met
+                .insert(format!("{call} with {waiting} waiting {mode} {format:?}"));
         }
         if ["view", "pixels", "pixel", "dump"].contains(&call.as_str()) {
             let (level, scale) = (panel.brightness().level(), panel.brightness().scale());
@@ -152,7 +165,8 @@ impl Coverage {
         }
         let printed: Vec<&str> = printed.split_whitespace().collect();
         let detail = match name.as_str() {
-            "reset" | "view" | "power" | "switch" | "fresh" => text(words[1]),
+            "reset" | "view" | "power" | "switch" => text(words[1]),
+            "fresh" => text(&words[1..].concat()),
             "pixel" => format!("{} {}", printed[1], printed[4] == "0000"),
             "row" => format!("{} {}", printed[1], printed[3] == "empty"),
             "boot" if printed[1] == "ok" => "ok".to_string(),
@@ -208,42 +222,29 @@ impl Coverage {
         }
     }
 
-    /// Runs the Rust's transfer under a profile and counts what it did, and what became of its pixels.
+    /// Runs the Rust's transfer under a profile and in a mode and counts what it did, and what became of
+    /// its pixels.
     pub fn transfer(
         &mut self,
         panel: &mut St7789p3,
         profile: &mut Profile,
-        time: u64,
-        dc: bool,
-        bytes: &[u8],
-        release: bool,
+        formats: &mut Formats,
+        segment: &Segment,
     ) {
-        let run = dc && hidden(panel).in_pixels;
-        let waiting = panel.carry().is_some();
-        let length = bytes.len() + usize::from(waiting);
-        let totals = Totals::of(panel, dc, bytes);
-        if run {
-            self.pixels.add(totals);
-            self.count_outcomes(totals);
-            *self.madctl.entry(panel.madctl()).or_default() += totals.stored;
-            self.left_waiting += u64::from(length % 2 == 1);
-            self.found_waiting += u64::from(waiting);
-        }
-        if !dc {
-            for code in bytes {
-                *self.codes.entry(*code).or_default() += 1;
-            }
-            let full = panel.trace().len().min(panel.warnings().len()) >= TRACE_LIMIT;
-            self.together[usize::from(waiting)] += u64::from(full && bytes.len() > 1);
-            let reset = profile.swreset;
-            let soon = reset.is_some_and(|reset| time.saturating_sub(reset) < 5_000_000);
-            self.strict[usize::from(!soon)] += u64::from(profile.strict && !bytes.is_empty());
+        let totals = Totals::of(panel, formats, segment);
+        if !segment.dc {
+            self.count_commands(panel, profile, segment);
+        } else if hidden(panel).in_pixels {
+            self.count_run(panel, formats, segment, totals);
         }
         if self.names {
-            self.name_transfer(panel, dc, bytes, release, totals);
+            self.name_transfer(panel, segment, totals);
+            if formats.on {
+                self.name_formats(panel, formats, segment, totals);
+            }
         }
         let (written, kept) = (panel.pixels_written(), panel.warnings().len());
-        profile.transfer(panel, time, dc, bytes, release);
+        profile.transfer(panel, formats, segment);
         let counted = panel.pixels_written() - written;
         assert_eq!(
             counted,
@@ -255,6 +256,47 @@ impl Coverage {
             let rule = rule_of(panel.warnings(), at, profile.fours());
             self.warnings[rule - 1] += 1;
             self.meet(|| format!("rule {rule} on {:02x}", known(warning.cmd)));
+        }
+    }
+
+    /// Counts a segment of commands.
+    fn count_commands(&mut self, panel: &St7789p3, profile: &Profile, segment: &Segment) {
+        let bytes = &segment.bytes;
+        for code in bytes {
+            *self.codes.entry(*code).or_default() += 1;
+        }
+        let waiting = panel.carry().is_some();
+        let full = panel.trace().len().min(panel.warnings().len()) >= TRACE_LIMIT;
+        self.together[usize::from(waiting)] += u64::from(full && bytes.len() > 1);
+        let since = |reset: u64| segment.time.saturating_sub(reset);
+        let soon = profile
+            .swreset
+            .is_some_and(|reset| since(reset) < 5_000_000);
+        self.strict[usize::from(!soon)] += u64::from(profile.strict && !bytes.is_empty());
+    }
+
+    /// Counts a data segment of a run.
+    fn count_run(
+        &mut self,
+        panel: &St7789p3,
+        formats: &Formats,
+        segment: &Segment,
+        totals: Totals,
+    ) {
+        self.pixels.add(totals);
+        self.count_outcomes(totals);
+        *self.madctl.entry(panel.madctl()).or_default() += totals.stored;
+        let waiting = formats.waiting(panel).len();
+        if !formats.on {
+            let length = segment.bytes.len() + waiting;
+            self.left_waiting += u64::from(length % 2 == 1);
+            self.found_waiting += u64::from(waiting > 0);
+            return;
+        }
+        self.formats[Format::of(panel) as usize] += 1;
+        self.waited[waiting] += 1;
+        if totals.stored > 0 {
+            self.formats_madctl.insert(panel.madctl());
         }
     }
 
@@ -271,14 +313,8 @@ impl Coverage {
     }
 
     /// What a transfer meets, by the state before it.
-    fn name_transfer(
-        &mut self,
-        panel: &St7789p3,
-        dc: bool,
-        bytes: &[u8],
-        release: bool,
-        totals: Totals,
-    ) {
+    fn name_transfer(&mut self, panel: &St7789p3, segment: &Segment, totals: Totals) {
+        let (dc, release, bytes) = (segment.dc, segment.release, &segment.bytes);
         let met = &mut self.met;
         let inner = hidden(panel);
         let empty = bytes.is_empty();
@@ -337,6 +373,40 @@ impl Coverage {
         }
     }
 
+    /// What a transfer meets with the mode on (Q-5), by the state before it.
+    fn name_formats(
+        &mut self,
+        panel: &St7789p3,
+        formats: &Formats,
+        segment: &Segment,
+        totals: Totals,
+    ) {
+        let met = &mut self.met;
+        let waiting = formats.waiting(panel).len();
+        let low = panel.colmod() & 7;
+        if segment.release {
+            met.insert(format!("releases {waiting} waiting"));
+        }
+        if !segment.dc {
+            for c in &segment.bytes {
+                let kind = if [0x01, 0x2c, 0x3c].contains(c) {
+                    *c
+                } else {
+                    0xff
+                };
+                met.insert(format!("begins {kind:02x} in {low} {waiting}"));
+            }
+        } else if hidden(panel).in_pixels {
+            let (format, length) = (Format::of(panel), segment.bytes.len().min(4));
+            met.insert(format!("format {format:?} {waiting} {length}"));
+            met.insert(format!("format {low} {:02x}", panel.ramctrl()[1] & 0x08));
+            let some = [totals.stored, totals.inverted, totals.unmapped].map(|n| n > 0);
+            met.insert(format!("format {format:?} {some:?}"));
+        } else {
+            met.insert(format!("parameters with {waiting} waiting"));
+        }
+    }
+
     /// Adds what another one counted.
     pub fn add(&mut self, other: Coverage) {
         self.logs += other.logs;
@@ -344,6 +414,13 @@ impl Coverage {
         self.bad_lines += other.bad_lines;
         self.left_waiting += other.left_waiting;
         self.found_waiting += other.found_waiting;
+        for (of, count) in other.formats.iter().enumerate() {
+            self.formats[of] += count;
+        }
+        for (of, count) in other.waited.iter().enumerate() {
+            self.waited[of] += count;
+        }
+        self.formats_madctl.extend(other.formats_madctl);
         for (of, count) in other.together.iter().enumerate() {
             self.together[of] += count;
         }
@@ -452,14 +529,25 @@ impl Coverage {
             &mut out,
             format_args!(
                 "segments of several commands with trace and warnings full: {free} with no byte waiting, \
-                 {waiting} with one"
+                 {waiting} with one or two"
             ),
         );
         line(
             &mut out,
             format_args!(
-                "pixel segments that left a byte waiting {}, that found one waiting {}",
+                "pixel segments with the mode off that left a byte waiting {}, that found one waiting {}",
                 self.left_waiting, self.found_waiting
+            ),
+        );
+        let [twelve, high, low, eighteen] = self.formats;
+        let [_, one, two] = self.waited;
+        line(
+            &mut out,
+            format_args!(
+                "data segments with the mode on (Q-5): by format 12-bit {twelve}, 16 high {high}, \
+                 16 low {low}, 18-bit {eighteen}; {one} found one byte waiting, {two} found two; \
+                 MADCTL values under which a pixel was stored: {} of 256",
+                self.formats_madctl.len()
             ),
         );
         let [up_to, above] = self.perceived;

@@ -32,6 +32,12 @@ const TALLIES: [&str; 6] = [
     "lost_unmapped",
 ];
 
+/// COLMOD values: each of the low three bits that name a pixel format, with several upper ones, and
+/// each of the others.
+const COLMODS: [&str; 14] = [
+    "55", "66", "53", "03", "05", "06", "fb", "fe", "5d", "00", "41", "62", "04", "07",
+];
+
 /// Coordinates at and around the limits.
 const EDGES: [u64; 8] = [0, 1, 239, 240, 318, 319, 320, 65_535];
 
@@ -48,7 +54,7 @@ pub const DOMAINS: [&str; 7] = [
 const VIEWS: [&str; 3] = ["raw", "glass", "perceived"];
 
 /// Lines that make no sense.
-const BAD_LINES: [&str; 67] = [
+const BAD_LINES: [&str; 71] = [
     "transfer",
     "transfer 0 0 0",
     "transfer 0 0 0 2c 00",
@@ -84,6 +90,7 @@ const BAD_LINES: [&str; 67] = [
     "fresh",
     "fresh 1 2",
     "fresh 2 1",
+    "fresh 1 0 2",
     "fresh 1 1 1 1",
     "publish 1",
     "view all",
@@ -104,6 +111,9 @@ const BAD_LINES: [&str; 67] = [
     "set warnings 0 2c 0",
     "set warnings 5 2c 0",
     "set strict 2",
+    "set formats 2",
+    "set carry f8000",
+    "set carry f80007",
     "totals",
     "totals 0 1 0",
     "totals 0 1 0 f800 00",
@@ -127,6 +137,9 @@ pub fn script(seed: u64) -> String {
 pub fn script_of(seed: u64, most: u64) -> String {
     let random = &mut Random::new(seed);
     let mut writer = Writer::new(if most > 6 { 9 } else { 3 });
+    if random.one_in(4) {
+        writer.line(format!("fresh {} {} 1", random.below(2), random.below(2)));
+    }
     if random.one_in(if most > 6 { 5 } else { 12 }) {
         writer.boot(random);
     }
@@ -138,7 +151,7 @@ pub fn script_of(seed: u64, most: u64) -> String {
     }
     let scenes = random.within(1, most);
     for _ in 0..scenes {
-        match random.below(15) {
+        match random.below(17) {
             0..=4 => writer.traffic(random, most.min(6)),
             5 => writer.views(random),
             6 => writer.lent_lengths(random),
@@ -146,6 +159,7 @@ pub fn script_of(seed: u64, most: u64) -> String {
             9..=11 => writer.bad_state(random),
             12 if most > 6 || random.one_in(3) => writer.long_lists(random),
             13 => writer.call_then_go_on(random),
+            14 | 15 => writer.formats(random),
             _ => writer.long_segments(random),
         }
         for _ in 0..random.below(3) {
@@ -251,7 +265,66 @@ impl Writer {
             if random.one_in(12) {
                 self.any_call(random);
             }
+            if random.one_in(30) {
+                self.format(random);
+            }
         }
+    }
+
+    /// A command with its data.
+    pub fn send(&mut self, command: &str, data: &str) {
+        self.line(format!("transfer 0 0 0 {command}"));
+        self.line(format!("transfer 0 1 0 {data}"));
+    }
+
+    /// A pixel format: COLMOD, and at times RAMCTRL with its ENDIAN bit either way.
+    pub fn format(&mut self, random: &mut Random) {
+        let colmod = match random.below(6) {
+            0 => format!("{:02x}", random.byte()),
+            _ => random.pick(&COLMODS).to_string(),
+        };
+        self.send("3a", &colmod);
+        if random.one_in(2) {
+            let ramctrl = match random.below(3) {
+                0 => random.below(65_536),
+                _ => random.pick(&[0x0000, 0x0008, 0x00f0, 0x00f8, 0x0800, 0x08f7]),
+            };
+            self.send("b0", &format!("{ramctrl:04x}"));
+        }
+    }
+
+    /// A run in a pixel format, cut anywhere, and gone on with after a command or a release.
+    fn formats(&mut self, random: &mut Random) {
+        if !random.one_in(5) {
+            self.line("set formats 1");
+        }
+        self.format(random);
+        for _ in 0..random.within(1, 3) {
+            let begin = random.pick(&["2c", "2c", "3c", "3c", "3c", "00", "01", "-"]);
+            let release = u8::from(random.one_in(12));
+            self.line(format!("transfer 4 0 {release} {begin}"));
+            for _ in 0..random.within(1, 3) {
+                let length = random.pick(&[1, 1, 2, 2, 3, 4, 5, 7]);
+                let segment = Segment {
+                    time: 4,
+                    dc: true,
+                    release: random.one_in(12),
+                    bytes: random.bytes(length),
+                };
+                self.transfer(random, &segment);
+            }
+        }
+        self.line(format!("row panel {}", random.pick(&[0, 0, 1, 319])));
+    }
+
+    /// Two bytes wait in a format that lets them.
+    fn two_wait(&mut self, random: &mut Random) {
+        self.line("set formats 1");
+        self.line(format!(
+            "set colmod {}",
+            random.pick(&["66", "03", "53", "fe"])
+        ));
+        self.line(format!("set carry {:04x}", random.below(65_536)));
     }
 
     /// A run that leaves a byte waiting or not, one other call, then 3C or more data.
@@ -259,7 +332,7 @@ impl Writer {
         for _ in 0..random.within(1, 3) {
             let begin = random.pick(&["2c", "2c", "3c", "363c", "002c"]);
             self.line(format!("transfer 3 0 0 {begin}"));
-            let bytes = random.pick(&["f8", "f80007", "f80007e0", "-", "00*485"]);
+            let bytes = random.pick(&["f8", "f800", "f80007", "f80007e0", "-", "00*485"]);
             self.line(format!("transfer 3 1 0 {bytes}"));
             self.any_call(random);
             if !random.one_in(4) {
@@ -310,10 +383,10 @@ impl Writer {
         }
     }
 
-    /// A panel made anew, with its profile named or left out.
+    /// A panel made anew, with its profile and its mode named or left out.
     fn fresh(&mut self, random: &mut Random) {
-        let profile = random.pick(&["", "", " 0", " 1", " 1"]);
-        self.line(format!("fresh {}{profile}", random.below(2)));
+        let chosen = random.pick(&["", "", " 0", " 1", " 1", " 0 1", " 0 1", " 1 1", " 1 0"]);
+        self.line(format!("fresh {}{chosen}", random.below(2)));
     }
 
     /// A whole view by its digest, or at times by its pixels.
@@ -427,6 +500,9 @@ impl Writer {
         if !random.one_in(3) {
             self.good_context(random);
         }
+        if random.one_in(4) {
+            self.two_wait(random);
+        }
         if random.one_in(2) {
             self.line("transfer 3 1 0 -");
         }
@@ -446,9 +522,9 @@ impl Writer {
 
     /// One field at a value within the table.
     fn good_field(&mut self, random: &mut Random) {
-        let line = match random.below(18) {
+        let line = match random.below(20) {
             0 => format!("set madctl {:02x}", random.byte()),
-            1 => format!("set colmod {}", random.pick(&["55", "66", "00"])),
+            1 => format!("set colmod {}", random.pick(&COLMODS)),
             2 => format!("set ramctrl {:04x}", random.below(65_536)),
             3 | 4 => {
                 let [xs, xe, ys, ye, x, y] = [(); 6].map(|()| match random.below(3) {
@@ -489,6 +565,7 @@ impl Writer {
                 "set swreset {}",
                 random.pick(&["none", "0", "1", "3", "4999994", "18446744073709551615"])
             ),
+            17 | 18 => format!("set formats {}", random.below(2)),
             _ => format!("set carry {}", random.pick(&["none", "00", "f8"])),
         };
         self.line(line);
@@ -546,7 +623,7 @@ impl Writer {
 
     /// One thing at or past a limit of the table, probed, and mostly put right again.
     fn bad_state(&mut self, random: &mut Random) {
-        let (set, right) = match random.below(12) {
+        let (set, right) = match random.below(14) {
             0 | 1 => {
                 let mut win = [(); 6].map(|()| random.below(320));
                 win[random.below(6) as usize] = random.pick(&EDGES[4..]);
@@ -623,6 +700,13 @@ impl Writer {
                     format!("set current {index}"),
                     "set current none".to_string(),
                 )
+            }
+            10 | 11 => {
+                // Two bytes that wait, or one, in any mode and format.
+                self.line(format!("set formats {}", random.below(2)));
+                self.line(format!("set colmod {}", random.pick(&COLMODS)));
+                let waiting = random.pick(&["f8", "f800", "f800", "0000", "07e0"]);
+                (format!("set carry {waiting}"), "set carry none".to_string())
             }
             _ => {
                 // A current record whose pixel bytes are at or past the limit.

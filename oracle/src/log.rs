@@ -3,6 +3,7 @@
 use pemu_core::time::VTime;
 
 use crate::coverage::Coverage;
+use crate::formats::Formats;
 use crate::profile::Profile;
 use crate::refusals::{BAD_LOG, LOG_LIMIT, LOG_LONG};
 use crate::report::replay_lines;
@@ -79,14 +80,15 @@ pub fn replay_seen(log: &[u8], mut seen: Option<&mut Coverage>) -> String {
     let mut panel = St7789p3::new(PanelConfig {
         invon_shows_ram: true,
     });
-    // "chosen at the start": in a log nothing is, so it goes by the plain profile, as the Rust does.
-    let mut profile = Profile::new(false);
+    // "chosen at the start", "chosen when the panel is made": in a log nothing is, so it goes by the plain
+    // profile and with the mode off, as the Rust does.
+    let (mut profile, mut formats) = (Profile::new(false), Formats::new(false));
     for r in &records {
         match &mut seen {
             None => panel.transfer(VTime(r.time), r.dc, &r.bytes, r.release),
             Some(seen) => {
                 seen.call("record");
-                seen.transfer(&mut panel, &mut profile, r.time, r.dc, &r.bytes, r.release);
+                seen.transfer(&mut panel, &mut profile, &mut formats, r);
             }
         }
     }

@@ -1,10 +1,13 @@
 //! The profiles of Q-14, written from its sentences beside the Rust, which knows no profile. Of a
-//! transfer's warnings rules 1 to 3 stay the Rust's own, and rule 4 is judged here.
+//! transfer's warnings rules 1 to 3 stay as they come (rule 3 is Q-5's with its mode on, else all are the
+//! Rust's own), and rule 4 is judged here.
 
 use std::collections::BTreeSet;
 
 use pemu_core::time::VTime;
 
+use crate::formats::Formats;
+use crate::log::Segment;
 use crate::report::RULES;
 use crate::st7789::reach::fields;
 use crate::st7789::{St7789p3, TRACE_LIMIT, TimingWarning};
@@ -32,18 +35,12 @@ impl Profile {
         }
     }
 
-    /// The Rust's transfer under this profile. Under strict each command of a segment goes by itself,
-    /// since rule 4 comes behind the other rules of each.
-    pub fn transfer(
-        &mut self,
-        panel: &mut St7789p3,
-        time: u64,
-        dc: bool,
-        bytes: &[u8],
-        release: bool,
-    ) {
+    /// The transfer of Q-5's mode, which is the Rust's own with it off, under this profile. Under strict
+    /// each command of a segment goes by itself, since rule 4 comes behind the other rules of each.
+    pub fn transfer(&mut self, panel: &mut St7789p3, formats: &mut Formats, segment: &Segment) {
+        let (time, dc, bytes) = (segment.time, segment.dc, &segment.bytes);
         if dc || !self.strict || bytes.is_empty() {
-            panel.transfer(VTime(time), dc, bytes, release);
+            formats.transfer(panel, segment);
             if !dc && bytes.contains(&0x01) {
                 self.swreset = Some(time);
             }
@@ -51,7 +48,13 @@ impl Profile {
         }
         for (at, c) in bytes.iter().enumerate() {
             let last = at + 1 == bytes.len();
-            panel.transfer(VTime(time), false, &[*c], release && last);
+            let alone = Segment {
+                time,
+                dc,
+                release: segment.release && last,
+                bytes: vec![*c],
+            };
+            formats.transfer(panel, &alone);
             self.judge(panel, *c, time);
         }
     }

@@ -1,5 +1,6 @@
 //! The table of refusals of document 01, tested around the Rust, which refuses nothing itself.
 
+use crate::formats::Formats;
 use crate::st7789::reach::hidden;
 use crate::st7789::{MAX_PARAMS, PANEL_HEIGHT, PANEL_PIXELS, St7789p3, TRACE_LIMIT};
 use crate::totals::Lost;
@@ -36,23 +37,29 @@ impl Lent {
 }
 
 /// What a transfer with memory refuses: 1, 2, 4, 5.
-pub fn transfer(panel: &St7789p3, lost: &Lost, lent: Lent, length: usize) -> Result<(), u8> {
-    state(panel)?;
+pub fn transfer(
+    panel: &St7789p3,
+    formats: &Formats,
+    lost: &Lost,
+    lent: Lent,
+    length: usize,
+) -> Result<(), u8> {
+    state(panel, formats)?;
     memory(lent)?;
     segment(length)?;
     counts(panel, lost)
 }
 
 /// What a transfer without memory refuses: 1, 4, 5.
-pub fn bare(panel: &St7789p3, lost: &Lost, length: usize) -> Result<(), u8> {
-    state(panel)?;
+pub fn bare(panel: &St7789p3, formats: &Formats, lost: &Lost, length: usize) -> Result<(), u8> {
+    state(panel, formats)?;
     segment(length)?;
     counts(panel, lost)
 }
 
 /// What publishing refuses: 1, 2, 3.
-pub fn publish(panel: &St7789p3, lent: Lent) -> Result<(), u8> {
-    state(panel)?;
+pub fn publish(panel: &St7789p3, formats: &Formats, lent: Lent) -> Result<(), u8> {
+    state(panel, formats)?;
     memory(lent)?;
     frame(lent.frame)
 }
@@ -98,12 +105,12 @@ pub fn high_counts(panel: &St7789p3, lost: &Lost) -> Vec<&'static str> {
     ])
 }
 
-fn state(panel: &St7789p3) -> Result<(), u8> {
-    test(!bad_clauses(panel).is_empty(), BAD_STATE)
+fn state(panel: &St7789p3, formats: &Formats) -> Result<(), u8> {
+    test(!bad_clauses(panel, formats).is_empty(), BAD_STATE)
 }
 
-/// The clauses of BAD_STATE that a state meets, by name.
-pub fn bad_clauses(panel: &St7789p3) -> Vec<&'static str> {
+/// The clauses of BAD_STATE that a state meets, by name; that of the carry is Q-5's.
+pub fn bad_clauses(panel: &St7789p3, formats: &Formats) -> Vec<&'static str> {
     let inner = hidden(panel);
     let (xs, xe, ys, ye) = panel.window();
     let (x, y) = panel.cursor();
@@ -133,6 +140,7 @@ pub fn bad_clauses(panel: &St7789p3) -> Vec<&'static str> {
             "current's params",
             current.is_some_and(|(_, r)| r.is_some_and(|r| r.params != inner.params)),
         ),
+        ("carry", formats.bad_carry(panel)),
     ])
 }
 

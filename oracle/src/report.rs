@@ -5,6 +5,7 @@ use std::fmt::Write;
 use std::sync::atomic::{AtomicBool, Ordering};
 
 use crate::backlight::reach::pair;
+use crate::formats::Formats;
 use crate::profile::Profile;
 use crate::st7789::reach::{fields, hidden};
 use crate::st7789::{FrameView, MAX_PARAMS, PANEL_WIDTH, St7789p3, TRACE_LIMIT};
@@ -85,19 +86,27 @@ pub fn at_most_full<T>(panel: &mut St7789p3, look: impl FnOnce(&St7789p3) -> T) 
 }
 
 /// The whole dump, with the digest of the frame's numbers.
-pub fn dump(panel: &mut St7789p3, profile: &Profile, lost: &Lost, frame: &[u16], out: &mut String) {
+pub fn dump(
+    panel: &mut St7789p3,
+    profile: &Profile,
+    formats: &Formats,
+    lost: &Lost,
+    frame: &[u16],
+    out: &mut String,
+) {
     replay_lines(panel, profile, out);
     let inner = hidden(panel);
     line(
         out,
         format_args!(
-            "ctl {} {} {} {} {} {}",
+            "ctl {} {} {} {} {} {} {}",
             bit(panel.powered()),
             bit(panel.config().invon_shows_ram),
             panel.brightness().level(),
             panel.brightness().scale(),
             inner.frame_duty,
             bit(profile.strict),
+            bit(formats.on),
         ),
     );
     line(
@@ -107,7 +116,7 @@ pub fn dump(panel: &mut St7789p3, profile: &Profile, lost: &Lost, frame: &[u16],
             hex_or_none(inner.cmd),
             bit(inner.in_pixels),
             bit(inner.applied),
-            hex_or_none(panel.carry()),
+            waiting(&formats.waiting(panel)),
             list(inner.params),
         ),
     );
@@ -221,6 +230,14 @@ fn list(bytes: &[u8]) -> String {
 
 fn hex_or_none(byte: Option<u8>) -> String {
     byte.map_or("none".to_string(), |byte| format!("{byte:02x}"))
+}
+
+/// Bytes that wait side by side, or `none`.
+fn waiting(bytes: &[u8]) -> String {
+    match bytes {
+        [] => "none".to_string(),
+        _ => bytes.iter().map(|byte| format!("{byte:02x}")).collect(),
+    }
 }
 
 fn number_or_none(number: Option<u64>) -> String {

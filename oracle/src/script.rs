@@ -8,6 +8,8 @@ use pemu_core::time::VTime;
 use crate::backlight::Brightness;
 use crate::backlight::reach::pair;
 use crate::coverage::Coverage;
+use crate::formats::Formats;
+use crate::log::Segment;
 use crate::profile::Profile;
 use crate::refusals::{self, Lent};
 use crate::report::{self, RULES, UNGUARDED, VIEWS, at_most_full, bit, digest, line};
@@ -26,11 +28,12 @@ const LEND_LIMIT: u64 = PANEL_PIXELS as u64 + 1;
 /// The highest count of a list that `set` makes.
 const COUNT_LIMIT: usize = 255;
 
-/// The panel with its memory inside, what add to it, the frame, the lengths with which
+/// The panel with its memory inside, what add to it, the frame, the lengths with which
 /// buffers are lent, and what was seen of the calls, where that is asked for.
 struct Bench<'a> {
     panel: St7789p3,
     profile: Profile,
+    formats: Formats,
     lost: Lost,
     port: FramePort,
     lent: Lent,
@@ -54,6 +57,7 @@ pub fn run_seen(script: &[u8], seen: Option<&mut Coverage>) -> String {
     let mut bench = Bench {
         panel: fresh(true),
         profile: Profile::new(false),
+        formats: Formats::new(false),
         lost: Lost::default(),
         port: FramePort::zeros(PANEL_PIXELS),
         lent: Lent::FULL,
@@ -71,13 +75,7 @@ pub fn run_seen(script: &[u8], seen: Option<&mut Coverage>) -> String {
             return out;
         }
     }
-    report::dump(
-        &mut bench.panel,
-        &bench.profile,
-        &bench.lost,
-        &bench.port.pixels,
-        &mut out,
-    );
+    bench.dump(&mut out);
     out
 }
 
@@ -102,7 +100,7 @@ impl Bench<'_> {
         let Some(seen) = &mut self.seen else {
             return self.call(words, out);
         };
-        seen.before(&self.panel, &self.lost, words);
+        seen.before(&self.panel, &self.formats, &self.lost, words);
         let start = out.len();
         let done = self.call(words, out);
         if let Some(seen) = &mut self.seen {
@@ -111,54 +109,61 @@ impl Bench<'_> {
         done
     }
 
-    /// The Rust's transfer, under the panel's profile, and its totals.
-    fn transfer(&mut self, time: u64, dc: bool, bytes: &[u8], release: bool) -> Totals {
-        let totals = Totals::of(&mut self.panel, dc, bytes);
+    /// The Rust's transfer, under the panel's profile and in its mode, and its totals.
+    fn transfer(&mut self, segment: &Segment) -> Totals {
+        let totals = Totals::of(&mut self.panel, &self.formats, segment);
         self.lost.add(totals);
-        let (panel, profile) = (&mut self.panel, &mut self.profile);
+        let (panel, profile, formats) = (&mut self.panel, &mut self.profile, &mut self.formats);
         match &mut self.seen {
-            None => profile.transfer(panel, time, dc, bytes, release),
-            Some(seen) => seen.transfer(panel, profile, time, dc, bytes, release),
+            None => profile.transfer(panel, formats, segment),
+            Some(seen) => seen.transfer(panel, profile, formats, segment),
         }
         totals
     }
 
     /// The table's tests of a transfer with memory.
     fn tested(&self, length: usize) -> Result<(), u8> {
-        refusals::transfer(&self.panel, &self.lost, self.lent, length)
+        refusals::transfer(&self.panel, &self.formats, &self.lost, self.lent, length)
+    }
+
+    fn dump(&mut self, out: &mut String) {
+        report::dump(
+            &mut self.panel,
+            &self.profile,
+            &self.formats,
+            &self.lost,
+            &self.port.pixels,
+            out,
+        );
     }
 
     /// Runs one line; `None` when it makes no sense.
     fn call(&mut self, words: &[&[u8]], out: &mut String) -> Option<()> {
         match words {
-            [b"transfer", time, dc, cs, bytes] => {
-                let (time, dc, cs) = (long(time)?, flag(dc)?, flag(cs)?);
-                let bytes = byte_list(bytes, BYTES_LIMIT)?;
-                let tested = self.tested(bytes.len());
-                if accepted(tested, out) {
-                    self.transfer(time, dc, &bytes, cs);
+            [b"transfer", words @ ..] => {
+                let segment = segment(words)?;
+                if accepted(self.tested(segment.bytes.len()), out) {
+                    self.transfer(&segment);
                 }
             }
-            [b"totals", time, dc, cs, bytes] => {
-                let (time, dc, cs) = (long(time)?, flag(dc)?, flag(cs)?);
-                let bytes = byte_list(bytes, BYTES_LIMIT)?;
-                let tested = self.tested(bytes.len());
-                if accepted(tested, out) {
-                    let t = self.transfer(time, dc, &bytes, cs);
+            [b"totals", words @ ..] => {
+                let segment = segment(words)?;
+                if accepted(self.tested(segment.bytes.len()), out) {
+                    let t = self.transfer(&segment);
                     line(
                         out,
                         format_args!("totals {} {} {}", t.stored, t.inverted, t.unmapped),
                     );
                 }
             }
-            [b"bare", time, dc, cs, bytes] => {
-                let (time, dc, cs) = (long(time)?, flag(dc)?, flag(cs)?);
-                let bytes = byte_list(bytes, BYTES_LIMIT)?;
-                let tested = refusals::bare(&self.panel, &self.lost, bytes.len());
+            [b"bare", words @ ..] => {
+                let segment = segment(words)?;
+                let length = segment.bytes.len();
+                let tested = refusals::bare(&self.panel, &self.formats, &self.lost, length);
                 if accepted(tested, out) {
                     // The Rust has no such call: it writes to a copy of its memory, which is dropped.
                     let memory = fields(&mut self.panel).ram.clone();
-                    self.transfer(time, dc, &bytes, cs);
+                    self.transfer(&segment);
                     *fields(&mut self.panel).ram = memory;
                 }
             }
@@ -186,14 +191,16 @@ impl Bench<'_> {
                     if domain == BoardDomain::BoardRail {
                         fresh_scale(&mut self.panel);
                         self.profile.board_rail();
+                        self.formats.board_rail();
                         self.lost.board_rail();
                     }
                 }
             }
-            [b"fresh", switch, strict @ ..] => {
-                let strict = match strict {
-                    [] => false,
-                    [strict] => flag(strict)?,
+            [b"fresh", switch, chosen @ ..] => {
+                let (strict, formats) = match chosen {
+                    [] => (false, false),
+                    [strict] => (flag(strict)?, false),
+                    [strict, formats] => (flag(strict)?, flag(formats)?),
                     _ => return None,
                 };
                 let mut panel = fresh(flag(switch)?);
@@ -203,10 +210,12 @@ impl Bench<'_> {
                 }
                 self.panel = panel;
                 self.profile = Profile::new(strict);
+                self.formats = Formats::new(formats);
                 self.lost = Lost::default();
             }
             [b"publish"] => {
-                if accepted(refusals::publish(&self.panel, self.lent), out) {
+                let tested = refusals::publish(&self.panel, &self.formats, self.lent);
+                if accepted(tested, out) {
                     self.publish(out);
                 }
             }
@@ -254,12 +263,11 @@ impl Bench<'_> {
             [b"lend", b"memory", length] => self.lent.memory = lendable(length)?,
             [b"lend", b"frame", length] => self.lent.frame = lendable(length)?,
             [b"lend", b"view", length] => self.lent.view = lendable(length)?,
-            [b"dump"] => {
-                let frame = &self.port.pixels;
-                report::dump(&mut self.panel, &self.profile, &self.lost, frame, out);
-            }
+            [b"dump"] => self.dump(out),
             [b"set", b"frame", pixel] => self.port.pixels.fill(hex(pixel, 4)?),
             [b"set", b"strict", on] => self.profile.strict = flag(on)?,
+            [b"set", b"formats", on] => self.formats.on = flag(on)?,
+            [b"set", b"carry", bytes] => self.formats.wait(&mut self.panel, &waiting(bytes)?),
             [b"set", b"swreset", b"none"] => self.profile.swreset = None,
             [b"set", b"swreset", time] => self.profile.swreset = Some(long(time)?),
             [b"set", b"lost_inverted", n] => self.lost.inverted = long(n)?,
@@ -331,6 +339,28 @@ impl Bench<'_> {
     }
 }
 
+/// TIME DC CS BYTES of a transfer.
+fn segment(words: &[&[u8]]) -> Option<Segment> {
+    let [time, dc, release, bytes] = words else {
+        return None;
+    };
+    Some(Segment {
+        time: long(time)?,
+        dc: flag(dc)?,
+        release: flag(release)?,
+        bytes: byte_list(bytes, BYTES_LIMIT)?,
+    })
+}
+
+/// The bytes that wait: `none`, one or two.
+fn waiting(word: &[u8]) -> Option<Vec<u8>> {
+    match word {
+        b"none" => Some(Vec::new()),
+        [_, _] => Some(vec![byte_word(word)?]),
+        _ => Some(hex(word, 4)?.to_be_bytes().to_vec()),
+    }
+}
+
 /// Prints a refusal, if it is one.
 fn accepted(tested: Result<(), u8>, out: &mut String) -> bool {
     if UNGUARDED.load(Ordering::Relaxed) {
@@ -360,8 +390,6 @@ fn set(panel: &mut St7789p3, field: &[u8], values: &[&[u8]]) -> Option<()> {
             (*panel.xs, *panel.xe, *panel.ys, *panel.ye) = (left, right, top, bottom);
             (*panel.x, *panel.y) = (column, row);
         }
-        (b"carry", [b"none"]) => *panel.carry = None,
-        (b"carry", [byte]) => *panel.carry = Some(byte_word(byte)?),
         (b"cmd", [b"none"]) => *panel.cmd = None,
         (b"cmd", [byte]) => *panel.cmd = Some(byte_word(byte)?),
         (b"params", [bytes]) => *panel.params = byte_list(bytes, COUNT_LIMIT)?,

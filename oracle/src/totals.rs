@@ -1,6 +1,8 @@
 //! The totals of Q-3, written from its sentences beside the Rust, which names no outcome. Where a pixel
 //! goes and where the pointer moves stays the Rust's own.
 
+use crate::formats::Formats;
+use crate::log::Segment;
 use crate::st7789::St7789p3;
 use crate::st7789::reach::{advance, fields, hidden, is_mapped};
 
@@ -15,17 +17,22 @@ pub struct Totals {
 impl Totals {
     /// "the run shall add them up, and a transfer shall answer its own three totals": those of a segment
     /// that the panel is about to take. The panel stays as it is.
-    pub fn of(panel: &mut St7789p3, dc: bool, bytes: &[u8]) -> Totals {
+    pub fn of(panel: &mut St7789p3, formats: &Formats, segment: &Segment) -> Totals {
+        let (dc, bytes) = (segment.dc, &segment.bytes);
         let mut totals = Totals::default();
         // Commands have no pixels, nor has data outside a run.
         if !dc || !hidden(panel).in_pixels {
             return totals;
         }
-        // "pairs form pixels"; a byte that waits is the first of a pair.
+        // "pairs form pixels"; a byte that waits is the first of a pair. With Q-5's mode on its format tells.
         let waiting = usize::from(panel.carry().is_some());
+        let complete = match formats.on {
+            false => (waiting + bytes.len()) / 2,
+            true => formats.taken(panel, bytes).0.len(),
+        };
         let (xs, xe, ys, ye) = panel.window();
         let pointer = panel.cursor();
-        for _ in 0..(waiting + bytes.len()) / 2 {
+        for _ in 0..complete {
             if xs > xe || ys > ye {
                 totals.inverted += 1;
                 continue;

@@ -1,7 +1,9 @@
 //! What is timed: tables of transfers, each with the part that brings the state about and the part that counts.
 
+use crate::formats::Formats;
 use crate::log::{Segment, record_bytes};
-use crate::st7789::BOOT_SEQUENCE;
+use crate::st7789::reach::fields;
+use crate::st7789::{BOOT_SEQUENCE, PanelConfig, St7789p3};
 
 pub const MADCTLS: [u8; 8] = [0x00, 0x40, 0x80, 0xC0, 0x20, 0x60, 0xA0, 0xE0];
 
@@ -143,6 +145,60 @@ pub fn flushes() -> Vec<Case> {
     let body = cut(&pixels(4_096), 1);
     let name = "data of one byte, every second completes a pixel".to_string();
     cases.push(Case::new(name, full_window(0x00), body, 4_096));
+    cases
+}
+
+/// One picture in two formats, for a panel whose mode is on.
+pub struct Drawn {
+    pub name: String,
+    pub high_first: Case,
+    pub other: Case,
+    pub aim: f64,
+}
+
+/// COLMOD and RAMCTRL's second parameter, then the full window under this MADCTL.
+fn full_window_in(colmod: u8, ramctrl: u8, madctl: u8) -> Vec<Segment> {
+    let registers = [
+        with_data(0x3A, &[colmod]),
+        with_data(0xB0, &[0x00, ramctrl]),
+    ];
+    [&registers.concat()[..], &full_window(madctl)[2..]].concat()
+}
+
+/// The pixels of bytes in the format that these registers name, by the model of Q-5.
+fn decoded(colmod: u8, ramctrl: u8, bytes: &[u8]) -> Vec<u16> {
+    let mut panel = St7789p3::new(PanelConfig::default());
+    let f = fields(&mut panel);
+    (*f.colmod, *f.ramctrl) = (colmod, [0x00, ramctrl]);
+    Formats::new(true).taken(&panel, bytes).0
+}
+
+/// A flush in each of the other formats, 16,384 pixels a segment.
+pub fn formats() -> Vec<Drawn> {
+    let mut cases = Vec::new();
+    for (name, colmod, ramctrl, bytes, aim) in [
+        ("16 bits, low byte first", 0x55, 0x08, FLUSH, 1.1),
+        ("18 bits", 0x66, 0x00, FLUSH / 2 * 3, 2.0),
+        ("12 bits", 0x03, 0x00, FLUSH / 4 * 3, 3.0),
+    ] {
+        for madctl in MADCTLS {
+            let data = pixels(bytes);
+            let pairs: Vec<u8> = decoded(colmod, ramctrl, &data)
+                .into_iter()
+                .flat_map(u16::to_be_bytes)
+                .collect();
+            let case = |setup: Vec<Segment>, data: &[u8]| {
+                let body = cut(data, data.len() / 75 * 16);
+                Case::new(String::new(), setup, body, FLUSH / 2)
+            };
+            cases.push(Drawn {
+                name: format!("flush in {name}, MADCTL {madctl:02X}"),
+                high_first: case(full_window_in(0x55, 0x00, madctl), &pairs),
+                other: case(full_window_in(colmod, ramctrl, madctl), &data),
+                aim,
+            });
+        }
+    }
     cases
 }
 

@@ -11,6 +11,7 @@ mod foreign {
             first: usize,
             turns: usize,
             sessions: usize,
+            formats: u8,
             memory: *mut u16,
             memory_length: usize,
             out: *mut u64,
@@ -45,13 +46,14 @@ mod foreign {
     }
 }
 
-/// Runs `sessions` sessions; answers refusals, the four counts, and the entries of trace and warnings.
+/// Runs `sessions` sessions with Q-5's mode on or off; answers refusals, the four counts, and the entries of trace and warnings.
 pub fn transfers(
     table: &[u64],
     bytes: &[u8],
     first: usize,
     turns: usize,
     sessions: usize,
+    formats: bool,
     memory: &mut [u16],
 ) -> [u64; 7] {
     let mut out = [0u64; 8];
@@ -64,6 +66,7 @@ pub fn transfers(
             first,
             turns,
             sessions,
+            u8::from(formats),
             memory.as_mut_ptr(),
             memory.len(),
             out.as_mut_ptr(),

@@ -6,7 +6,7 @@ use std::time::Instant;
 use pemu_core::hostio::FramePort;
 use pemu_core::time::VTime;
 
-use crate::cases::Case;
+use crate::cases::{Case, Drawn};
 use crate::log::{self, Segment};
 use crate::ours;
 use crate::st7789::reach::fields;
@@ -27,6 +27,13 @@ impl Times {
 
 pub struct Timed {
     pub times: Times,
+    pub refused: u64,
+}
+
+/// Nanoseconds a pixel: in 16 bits, high byte first, and in another format.
+pub struct Drawing {
+    pub high_first: f64,
+    pub other: f64,
     pub refused: u64,
 }
 
@@ -140,7 +147,8 @@ pub fn transfers(case: &Case, rounds: usize) -> Timed {
     let mut memory = vec![0u16; PANEL_PIXELS];
     let mut ours = |turns: usize| {
         let (table, bytes) = (black_box(&rows.table), black_box(&rows.bytes));
-        ours::transfers(table, bytes, rows.first, turns, case.sessions, &mut memory)
+        let (first, sessions) = (rows.first, case.sessions);
+        ours::transfers(table, bytes, first, turns, sessions, false, &mut memory)
     };
     let mut refused = 0;
     let best = least::<4>(rounds, |n| match n {
@@ -160,6 +168,29 @@ pub fn transfers(case: &Case, rounds: usize) -> Timed {
             rust: (best[0] - best[2]) / units,
             ours: (best[1] - best[3]) / units,
         },
+        refused,
+    }
+}
+
+/// One picture drawn by ours with Q-5's mode on, in 16 bits, high byte first, and in another format; the
+/// times a pixel.
+pub fn formats(drawn: &Drawn, rounds: usize) -> Drawing {
+    let cases = [&drawn.high_first, &drawn.other];
+    let sides = cases.map(rows);
+    let mut memories = [vec![0u16; PANEL_PIXELS], vec![0u16; PANEL_PIXELS]];
+    let mut refused = 0;
+    let best = least::<4>(rounds, |n| {
+        let (case, rows, memory) = (cases[n % 2], &sides[n % 2], &mut memories[n % 2]);
+        let body = if n < 2 { case.body.len() } else { 0 };
+        let turns = case.setup.len() + body;
+        let (table, bytes) = (black_box(&rows.table), black_box(&rows.bytes));
+        refused += ours::transfers(table, bytes, rows.first, turns, 1, true, memory)[0];
+    });
+    same(&drawn.name, &memories[0], &memories[1]);
+    let units = drawn.other.units as f64;
+    Drawing {
+        high_first: (best[0] - best[2]) / units,
+        other: (best[1] - best[3]) / units,
         refused,
     }
 }

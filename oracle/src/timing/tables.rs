@@ -63,6 +63,7 @@ pub fn print(rounds: usize, only: &str) {
     heading("a pixel (or what the line says)");
     let mut flush = run.lines(&cases::flushes());
     run.lines(&cases::windows());
+    formats(&mut run);
     heading("one public transfer");
     let one = run.lines(&cases::transfers());
     heading("long command segments");
@@ -81,6 +82,23 @@ pub fn print(rounds: usize, only: &str) {
 
 fn slowest(times: &[Times]) -> Option<f64> {
     times.iter().map(|t| t.ours).reduce(f64::max)
+}
+
+/// Ours beside ours: a picture in another format, and the same in 16 bits, high byte first.
+fn formats(run: &mut Run) {
+    println!("\n| a pixel | high first, ns | so, ns | ratio | aim |");
+    println!("|---|---|---|---|---|");
+    for drawn in cases::formats() {
+        if run.wants(&drawn.name) {
+            let drawing = sides::formats(&drawn, run.rounds);
+            run.refused += drawing.refused;
+            let times = Times {
+                rust: drawing.high_first,
+                ours: drawing.other,
+            };
+            print_line(&drawn.name, times, Some(drawn.aim));
+        }
+    }
 }
 
 /// Publishing, views and replays, each a whole call.

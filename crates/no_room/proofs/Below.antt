@@ -1,4 +1,4 @@
--- Every public operation of digests, status, formats, geometry, marks, pixels, engine, blocks, lists, codes, timing, board and chip: its promise, which is its contract, leaves no room.
+-- Every public operation of digests, status, formats, geometry, marks, pixels, engine, lists, codes, timing, board and chip: its promise, which is its contract, leaves no room.
 use mathlib.Core.Path.{refl}
 use Rattle.digests.proofs.digest as digest
 use Rattle.status.proofs.number as number
@@ -32,7 +32,6 @@ use Rattle.pixels.proofs.store_at as store-at
 use Rattle.pixels.proofs.write_pixels as write-bytes
 use Rattle.pixels.proofs.clear as clear
 use Rattle.engine.proofs.write_pixels as write-pixels
-use Rattle.blocks.proofs.write_pixels as write-blocks
 use Rattle.lists.proofs.Params.empty as empty
 use Rattle.lists.proofs.Params.append as append
 use Rattle.lists.proofs.Params.differs as differs
@@ -165,9 +164,6 @@ write-bytes-one κs args x y u v p q = (same (p .0) (q .0), λ i. (tt, (tt, (tt,
 
 pub write-pixels-one : Only write-pixels.ended write-pixels.Reads.Learnt
 write-pixels-one κs args x y u v p q = (same (p .0) (q .0), λ i. (tt, (tt, (tt, (tt, (same (p .1) (q .1) i, tt))))))
-
-pub write-blocks-one : Only write-blocks.ended write-blocks.Reads.Learnt
-write-blocks-one κs args x y u v p q = (same (p .0) (q .0), λ i. (tt, (tt, (tt, (tt, (same (p .1) (q .1) i, tt))))))
 
 pub clear-one : Only clear.ended clear.Reads.Learnt
 clear-one κs args x y u v p q = (refl, λ i. (same p q i, tt))

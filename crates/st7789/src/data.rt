@@ -115,7 +115,7 @@ impl Controller {
         let decoder = old_chip.decoder;
         if decoder.in_pixels {
             let site = old_chip.site(self.cfg.formats);
-            let run = blocks::write_pixels(site, old_chip.walk, self.marks, bytes, memory);
+            let run = engine::write_pixels(site, old_chip.walk, self.marks, bytes, memory);
             let walk = run.walk;
             let totals = run.totals;
             let marks = run.marks;

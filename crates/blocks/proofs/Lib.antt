@@ -1,4 +1,0 @@
-pub mod Lists
-pub mod Encoding
-pub mod Decoding
-pub mod Parts

@@ -15,12 +15,10 @@ use Rattle.status.specs.Tests.{first, memoryRefusal, publishRow}
 use Rattle.status.proofs.Unless.{unless-either}
 use Rattle.board.specs.Board.{isBoardRail}
 use Rattle.board.specs.declared.PanelConfig.{PanelConfig}
-use Rattle.board.specs.declared.BoardDomain.{BoardDomain}
 use Rattle.st7789.specs.Parts.{traceOf, withController}
 use Rattle.st7789.specs.Refusals.{badState}
 use Rattle.st7789.specs.Entries.{freshController, emptyLists, freshPanel, railReset, resetState, resetMemory, transferMemory, allMarked, warningsTaken}
-use Rattle.st7789.specs.declared.PanelMemory.the-variants.{Lent, Without}
-use Rattle.st7789.specs.declared.Controller.{Controller}
+use Rattle.st7789.specs.declared.PanelMemory.the-variants.{Lent}
 use Rattle.st7789.specs.declared.St7789p3.{St7789p3}
 use Rattle.laws.specs.Valid.{Good}
 use Rattle.laws.specs.Profiles.{chosen, unwarned, ofThree, ProfilesAgree}

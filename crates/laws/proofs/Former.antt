@@ -22,9 +22,6 @@ use Rattle.board.specs.declared.PanelConfig.{PanelConfig}
 use Rattle.chip.specs.Begin.{chipBegun, chipReleased}
 use Rattle.chip.specs.Apply.{chipTaken}
 use Rattle.chip.specs.Site.{formatIn, siteOf, chipStores, chipTotals}
-use Rattle.chip.specs.declared.Chip.{Chip}
-use Rattle.chip.specs.declared.InForce.{InForce}
-use Rattle.chip.specs.declared.InForce.the-variants.{Code}
 use Rattle.chip.proofs.Stays.{begun-waits, taken-walk}
 use Rattle.status.specs.Numbers.{unlessRefused}
 use Rattle.status.specs.Tests.{first, transferRow, bareRow}
@@ -38,8 +35,8 @@ use Rattle.st7789.specs.declared.PanelMemory.{PanelMemory}
 use Rattle.st7789.specs.declared.PanelMemory.the-variants.{Lent, Without}
 use Rattle.st7789.specs.declared.Controller.{Controller}
 use Rattle.st7789.specs.declared.St7789p3.{St7789p3}
-use Rattle.laws.specs.Former.{Former, oddByte, waitingByte, formerPixels, formerCarry, formerDrawn, formerStores, formerTotals, formerRan, formerData, formerBroken, formerBegun, formerMoved, formerBad, formerRefusal, formerState, formerAnswered, formerMemory}
-use Rattle.laws.proofs.DataKinds.{dataBy, by-kind}
+use Rattle.laws.specs.Former.{Former, oddByte, waitingByte, formerPixels, formerCarry, formerStores, formerTotals, formerRan, formerData, formerBroken, formerBegun, formerMoved, formerBad, formerRefusal, formerState, formerAnswered, formerMemory}
+use Rattle.laws.proofs.DataKinds.{by-kind}
 use Rattle.laws.proofs.Profiles.{transferred-chosen}
 
 -- Bytes to pixels.

@@ -10,7 +10,6 @@ use Rattle.timing.specs.Lint.{breaks1, breaks2, breaks3, breaks4, brokenBy, onl
 use Rattle.status.specs.Numbers.{unlessRefused}
 use Rattle.st7789.specs.Parts.{warningsOf, withWarnings}
 use Rattle.st7789.specs.Command.{warning, brokenWith, afterLint, begun, begunAll, released}
-use Rattle.st7789.specs.Data.{dataIn}
 use Rattle.st7789.specs.Entries.{moved, transferred, bareTransferred, refusalWith, transferredWith}
 use Rattle.st7789.specs.declared.PanelMemory.{PanelMemory}
 use Rattle.st7789.specs.declared.PanelMemory.the-variants.{Lent, Without}

@@ -18,7 +18,7 @@ use Rattle.chip.specs.Site.{formatIn, siteOf}
 use Rattle.codes.specs.Codes.{kindOf, commandOf, isStored, placeOf}
 use Rattle.lists.specs.Fixed.{Fixed, places}
 use Rattle.lists.specs.Params.{noParams, filled, differ, tooLong}
-use Rattle.lists.specs.Entries.{some, storedLong, recordLong}
+use Rattle.lists.specs.Entries.{some, storedLong}
 use Rattle.lists.specs.declared.Params.{Params}
 use Rattle.lists.specs.declared.Stored.{Stored}
 use Rattle.lists.specs.declared.TraceRecord.{TraceRecord}

@@ -1,6 +1,6 @@
 -- The two hosts of the instance meet every premise of demand 3, by computing their calls.
 use mathlib.Core.Path.{_≡_, refl}
-use mathlib.Core.Bool.{Bool, true, false, _&&_}
+use mathlib.Core.Bool.{Bool, true, _&&_}
 use mathlib.Core.List.{List, [], _∷_}
 use borrow.Author.Tests.{eqb-true}
 use lib.Dec.{eqb}
@@ -23,7 +23,7 @@ use Rattle.st7789.specs.Entries.{freshController, emptyLists, moved, transferre
 use Rattle.publishing.specs.Publish.{publishRefusal, published, publishedFrame}
 use Rattle.hosts.specs.Calls.{Host, Call, Accepted, freshHost, refusal, step, defined, run}
 use Rattle.hosts.specs.Hosts.{rest, part, between, Makes, done, besides, same, sends, Demand3}
-use Rattle.hosts.specs.Instance.{plan, first, second, leftOver}
+use Rattle.hosts.specs.Instance.{plan, first, second, pixelPlan, pixelWhole, pixelCut, leftOver}
 use Rattle.hosts.proofs.Hosts.{two-hosts}
 
 first-makes : Makes plan first
@@ -55,25 +55,40 @@ unfoldable opened : Bool
 unfolding kindOf needOf mapOf outcome next noRows allRows mark spanOf marksBad arrival stores walkAfter pixelsCounted totalsOf filled differ brokenBy timesAfter freshChip chipBegun chipReleased appliedIfDue chipTaken begun controllerReleased ran taken dataIn badState transferRefusal freshController emptyLists moved transferred transferMemory resetState resetMemory publishRefusal published publishedFrame refusal step
 opened = true
 
--- Both panels have the switch on; in one instance pixels come in 16 bits, in another in the 18 that a fresh COLMOD names.
-abbrev shown : Bool → PanelConfig
-shown formats = formatsSet formats (switchedTo true)
+-- Both panels have the switch on.
+abbrev shown : Host
+shown = freshHost (switchedTo true)
 
-first-passes : (formats : Bool) → passes (freshHost (shown formats)) first ≡ true
+first-passes : passes shown first ≡ true
 unfolding opened
-first-passes true = refl
-first-passes false = refl
+first-passes = refl
 
-second-passes : (formats : Bool) → passes (freshHost (shown formats)) second ≡ true
+second-passes : passes shown second ≡ true
 unfolding opened
-second-passes true = refl
-second-passes false = refl
+second-passes = refl
 
-pub first-and-second : (formats : Bool) → Demand3 defined defined (shown formats) first second
-first-and-second formats =
-    two-hosts (shown formats) plan first second first-makes second-makes
-    (passed (freshHost (shown formats)) first (first-passes formats)) (passed (freshHost (shown formats)) second (second-passes formats))
+pub first-and-second : Demand3 defined defined (switchedTo true) first second
+first-and-second =
+    two-hosts (switchedTo true) plan first second first-makes second-makes (passed shown first first-passes) (passed shown second second-passes)
 
-second-left : leftOver (run defined (freshHost (shown false)) second) ≡ true
+second-left : leftOver (run defined shown second) ≡ true
 unfolding opened
 second-left = refl
+
+-- The same of two panels that read the formats: a fresh COLMOD names 18 bits.
+abbrev reads : PanelConfig
+reads = formatsSet true (switchedTo true)
+
+whole-passes : passes (freshHost reads) pixelWhole ≡ true
+unfolding opened
+whole-passes = refl
+
+cut-passes : passes (freshHost reads) pixelCut ≡ true
+unfolding opened
+cut-passes = refl
+
+pub eighteen-bits : Demand3 defined defined reads pixelWhole pixelCut
+eighteen-bits =
+    two-hosts reads pixelPlan pixelWhole pixelCut (same refl (sends rest done))
+    (same refl (sends (part {bytes = 0xFC ∷ 0x00 ∷ []} (between refl rest)) done))
+    (passed (freshHost reads) pixelWhole whole-passes) (passed (freshHost reads) pixelCut cut-passes)

@@ -76,6 +76,16 @@ second =
     ∷ looks (view Glass 76800)
     ∷ []
 
+-- One pixel of 18 bits, for panels that read the formats: the first host sends it whole, the second in two parts with a publish between.
+abbrev pub pixelPlan : List Call
+pixelPlan = commands 5 (0x2C ∷ []) false ∷ segment 0 (0xFC ∷ 0x00 ∷ 0x00 ∷ []) false ∷ []
+
+abbrev pub pixelWhole : List Call
+pixelWhole = commands 5 (0x2C ∷ []) false ∷ segment 1 (0xFC ∷ 0x00 ∷ 0x00 ∷ []) false ∷ []
+
+abbrev pub pixelCut : List Call
+pixelCut = commands 5 (0x2C ∷ []) false ∷ segment 1 (0xFC ∷ 0x00 ∷ []) false ∷ publish ∷ segment 2 (0x00 ∷ []) false ∷ []
+
 -- Whether a span is these rows.
 abbrev pub isRows : ℕ → ℕ → Span → Bool
 isRows f l Nothing = false

@@ -153,16 +153,16 @@ pub struct Drawn {
     pub name: String,
     pub high_first: Case,
     pub other: Case,
-    pub aim: f64,
+    pub aim: Option<f64>,
 }
 
-/// COLMOD and RAMCTRL's second parameter, then the full window under this MADCTL.
-fn full_window_in(colmod: u8, ramctrl: u8, madctl: u8) -> Vec<Segment> {
+/// COLMOD and RAMCTRL's second parameter, then such a window, which comes with a COLMOD of its own.
+fn window_in(colmod: u8, ramctrl: u8, window: &[Segment]) -> Vec<Segment> {
     let registers = [
         with_data(0x3A, &[colmod]),
         with_data(0xB0, &[0x00, ramctrl]),
     ];
-    [&registers.concat()[..], &full_window(madctl)[2..]].concat()
+    [&registers.concat()[..], &window[2..]].concat()
 }
 
 /// The pixels of bytes in the format that these registers name, by the model of Q-5.
@@ -173,7 +173,7 @@ fn decoded(colmod: u8, ramctrl: u8, bytes: &[u8]) -> Vec<u16> {
     Formats::new(true).taken(&panel, bytes).0
 }
 
-/// A flush in each of the other formats, 16,384 pixels a segment.
+/// In each of the other formats a flush, 16,384 pixels a segment, and small windows.
 pub fn formats() -> Vec<Drawn> {
     let mut cases = Vec::new();
     for (name, colmod, ramctrl, bytes, aim) in [
@@ -181,23 +181,30 @@ pub fn formats() -> Vec<Drawn> {
         ("18 bits", 0x66, 0x00, FLUSH / 2 * 3, 2.0),
         ("12 bits", 0x03, 0x00, FLUSH / 4 * 3, 3.0),
     ] {
-        for madctl in MADCTLS {
-            let data = pixels(bytes);
-            let pairs: Vec<u8> = decoded(colmod, ramctrl, &data)
-                .into_iter()
-                .flat_map(u16::to_be_bytes)
-                .collect();
+        let data = pixels(bytes);
+        let pairs: Vec<u8> = decoded(colmod, ramctrl, &data)
+            .into_iter()
+            .flat_map(u16::to_be_bytes)
+            .collect();
+        let mut draw = |what: &str, window: &[Segment], segment: usize, aim: Option<f64>| {
             let case = |setup: Vec<Segment>, data: &[u8]| {
-                let body = cut(data, data.len() / 75 * 16);
+                let body = cut(data, data.len() / (FLUSH / 2 / 128) * segment);
                 Case::new(String::new(), setup, body, FLUSH / 2)
             };
             cases.push(Drawn {
-                name: format!("flush in {name}, MADCTL {madctl:02X}"),
-                high_first: case(full_window_in(0x55, 0x00, madctl), &pairs),
-                other: case(full_window_in(colmod, ramctrl, madctl), &data),
+                name: format!("{what} in {name}, MADCTL {:02X}", window[3].bytes[0]),
+                high_first: case(window_in(0x55, 0x00, window), &pairs),
+                other: case(window_in(colmod, ramctrl, window), &data),
                 aim,
             });
+        };
+        for madctl in MADCTLS {
+            draw("flush", &full_window(madctl), 128, Some(aim));
         }
+        for madctl in [0x00, 0x20] {
+            draw("8x16 box, pixel data alone,", &window(madctl, (100, 107), (50, 65)), 1, None);
+        }
+        draw("one-pixel window", &window(0x00, (100, 100), (50, 50)), 128, None);
     }
     cases
 }

@@ -96,7 +96,7 @@ fn formats(run: &mut Run) {
                 rust: drawing.high_first,
                 ours: drawing.other,
             };
-            print_line(&drawn.name, times, Some(drawn.aim));
+            print_line(&drawn.name, times, drawn.aim);
         }
     }
 }

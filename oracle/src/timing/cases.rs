@@ -202,9 +202,11 @@ pub fn formats() -> Vec<Drawn> {
             draw("flush", &full_window(madctl), 128, Some(aim));
         }
         for madctl in [0x00, 0x20] {
-            draw("8x16 box, pixel data alone,", &window(madctl, (100, 107), (50, 65)), 1, None);
+            let glyph = window(madctl, (100, 107), (50, 65));
+            draw("8x16 box", &glyph, 1, None);
         }
-        draw("one-pixel window", &window(0x00, (100, 100), (50, 50)), 128, None);
+        let pixel = window(0x00, (100, 100), (50, 50));
+        draw("one-pixel window", &pixel, 128, None);
     }
     cases
 }

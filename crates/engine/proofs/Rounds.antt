@@ -11,7 +11,7 @@ use Rattle.formats.specs.declared.Carry.the-variants.{Empty, One, Two}
 use Rattle.formats.specs.Bytes.{firstOfTwo, secondOfTwo, narrowed, arrival, carryAfter}
 use Rattle.formats.specs.Counts.{held, wholeIn, restIn}
 use Rattle.formats.proofs.Waiting.{pixels-whole, carry-held}
-use Rattle.engine.specs.Whole.{pixelsIn, valueOf}
+use Rattle.engine.specs.Whole.{pixelsIn}
 
 -- As many as the closed form says, and then no byte waits.
 none-in : (f : Format) → wholeIn f 0 ≡ 0
@@ -94,13 +94,13 @@ module _ (f : Format) (w : ℕ → ℕ → ℕ → ℕ) (place : ℕ → ℕ)
 
 pub eighteen-at :
     (bytes : List ℕ) (k : ℕ) → 3 * (k + 1) ≤ length bytes →
-    valueOf (arrival Eighteen (Two (getD bytes (3 * k) 0) (getD bytes (3 * k + 1) 0)) (getD bytes (3 * k + 2) 0) .pixel) ≡ getD (pixelsIn Eighteen bytes) k 0
+    narrowed (getD bytes (3 * k) 0) (getD bytes (3 * k + 1) 0) (getD bytes (3 * k + 2) 0) ≡ getD (pixelsIn Eighteen bytes) k 0
 unfolding arrival
 eighteen-at = round-at Eighteen narrowed (λ k. k) (λ a b c bs. refl) (λ a b c bs k. refl)
 
 pub first-at :
     (bytes : List ℕ) (k : ℕ) → 3 * (k + 1) ≤ length bytes →
-    valueOf (arrival Twelve (One (getD bytes (3 * k) 0)) (getD bytes (3 * k + 1) 0) .pixel) ≡ getD (pixelsIn Twelve bytes) (2 * k) 0
+    firstOfTwo (getD bytes (3 * k) 0) (getD bytes (3 * k + 1) 0) ≡ getD (pixelsIn Twelve bytes) (2 * k) 0
 unfolding arrival
 first-at =
     round-at Twelve (λ a b c. firstOfTwo a b) (λ k. 2 * k) (λ a b c bs. refl)
@@ -108,7 +108,7 @@ first-at =
 
 pub second-at :
     (bytes : List ℕ) (k : ℕ) → 3 * (k + 1) ≤ length bytes →
-    valueOf (arrival Twelve (Two (getD bytes (3 * k) 0) (getD bytes (3 * k + 1) 0)) (getD bytes (3 * k + 2) 0) .pixel) ≡ getD (pixelsIn Twelve bytes) (2 * k + 1) 0
+    secondOfTwo (getD bytes (3 * k + 1) 0) (getD bytes (3 * k + 2) 0) ≡ getD (pixelsIn Twelve bytes) (2 * k + 1) 0
 unfolding arrival
 second-at =
     round-at Twelve (λ a b c. secondOfTwo b c) (λ k. 2 * k + 1) (λ a b c bs. refl)

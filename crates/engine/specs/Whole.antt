@@ -7,8 +7,6 @@ use Rattle.formats.specs.declared.Format.{Format}
 use Rattle.formats.specs.declared.Format.the-variants.{Twelve, HighFirst, LowFirst, Eighteen}
 use Rattle.formats.specs.declared.Carry.{Carry}
 use Rattle.formats.specs.declared.Carry.the-variants.{Empty, One, Two}
-use Rattle.formats.specs.declared.Pixel.{Pixel}
-use Rattle.formats.specs.declared.Pixel.the-variants.{Complete, Pending}
 use Rattle.formats.specs.Bytes.{pixelsOf}
 
 -- The pixels of bytes whose first begins one.
@@ -27,11 +25,6 @@ abbrev pub headOf : Format → Carry → ℕ
 headOf f Empty = 0
 headOf f (One a) = missingIn f
 headOf f (Two a b) = 1
-
--- The pixel that a byte completed.
-abbrev pub valueOf : Pixel → ℕ
-valueOf (Complete value) = value
-valueOf Pending = 0
 
 -- n numbers of one list, from i on, are those of another, from j on.
 pub record Agree (xs : List ℕ) (i : ℕ) (ys : List ℕ) (j n : ℕ) : Type 0 where

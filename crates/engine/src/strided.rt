@@ -8,9 +8,9 @@ ghost use Rattle.engine.specs.Strides.{strideOf, cellOf, onFrom, Inside}
 ghost use Rattle.engine.specs.Whole.{pixelsIn, Agree};
 ghost use Rattle.engine.specs.Rows.{laid};
 use crate::whole::eighteen;
-use crate::whole::first_of_two;
+use crate::whole::first_of_round;
 use crate::whole::low_first;
-use crate::whole::second_of_two;
+use crate::whole::second_of_round;
 
 // Where the pixels of a stretch go: from an index on, each so many cells forth, or so many back.
 struct Stride {
@@ -110,8 +110,8 @@ fn widen(bytes: &[u8], round: usize, rounds: usize, line: &mut [u16])
 {
     let mut k = 0;
     while k < rounds {
-        line[2 * k] = first_of_two(bytes, round + k);
-        line[2 * k + 1] = second_of_two(bytes, round + k);
+        line[2 * k] = first_of_round(bytes, round + k);
+        line[2 * k + 1] = second_of_round(bytes, round + k);
         k += 1;
     }
 }

@@ -5,13 +5,13 @@ ghost use Prim.Native.Nat.{_+_, _*_, _≤_};
 ghost use lib.ListN.{length, getD};
 ghost use Rattle.formats.specs.Counts.{wholeIn, restIn};
 ghost use Rattle.formats.specs.declared.Format.the-variants.{Twelve, HighFirst, LowFirst, Eighteen};
-ghost use Rattle.engine.specs.Whole.{pixelsIn, valueOf, missingIn, headOf};
-use formats::Arrived;
+ghost use Rattle.engine.specs.Whole.{pixelsIn, missingIn, headOf};
 use formats::Carry;
 use formats::Format;
-use formats::Pixel;
-use formats::bytewise::arrive;
+use formats::bytewise::first_of_two;
+use formats::bytewise::from_eighteen;
 use formats::bytewise::joined;
+use formats::bytewise::second_of_two;
 
 pub(crate) fn is_high_first(format: Format) -> bool
     ensures { λ r. ⌜ (r ≡ true → format ≡ HighFirst) ⌝ }
@@ -72,17 +72,6 @@ pub(crate) fn whole_pixels(format: Format, bytes: usize) -> usize
     }
 }
 
-// The pixel that a byte completed.
-fn value(arrived: Arrived) -> u16
-    ensures { λ r. ⌜ r ≡ valueOf (arrived .pixel) ⌝ }
-{
-    let pixel = arrived.pixel;
-    match pixel {
-        Pixel::Complete(value) => value,
-        Pixel::Pending => 0,
-    }
-}
-
 // Pixel k in 16 bits, high byte first.
 pub(crate) fn high_first(bytes: &[u8], k: usize) -> u16
     requires { ⌜ 2 * (k + 1) ≤ length (now bytes) ⌝ }
@@ -105,25 +94,22 @@ pub(crate) fn eighteen(bytes: &[u8], k: usize) -> u16
     ensures { λ r. ⌜ r ≡ getD (pixelsIn Eighteen (now (bytes .entry))) k 0 ⌝ }
 {
     let i = 3 * k;
-    let waiting = Carry::Two(bytes[i], bytes[i + 1]);
-    value(arrive(Format::Eighteen, waiting, bytes[i + 2]))
+    from_eighteen(bytes[i], bytes[i + 1], bytes[i + 2])
 }
 
-// The two pixels of three bytes in 12 bits: the k-th of the first ones, and of the second ones.
-pub(crate) fn first_of_two(bytes: &[u8], k: usize) -> u16
+// The two pixels of round k, of three bytes, in 12 bits.
+pub(crate) fn first_of_round(bytes: &[u8], k: usize) -> u16
     requires { ⌜ 3 * (k + 1) ≤ length (now bytes) ⌝ }
     ensures { λ r. ⌜ r ≡ getD (pixelsIn Twelve (now (bytes .entry))) (2 * k) 0 ⌝ }
 {
     let i = 3 * k;
-    let waiting = Carry::One(bytes[i]);
-    value(arrive(Format::Twelve, waiting, bytes[i + 1]))
+    first_of_two(bytes[i], bytes[i + 1])
 }
 
-pub(crate) fn second_of_two(bytes: &[u8], k: usize) -> u16
+pub(crate) fn second_of_round(bytes: &[u8], k: usize) -> u16
     requires { ⌜ 3 * (k + 1) ≤ length (now bytes) ⌝ }
     ensures { λ r. ⌜ r ≡ getD (pixelsIn Twelve (now (bytes .entry))) (2 * k + 1) 0 ⌝ }
 {
     let i = 3 * k;
-    let waiting = Carry::Two(bytes[i], bytes[i + 1]);
-    value(arrive(Format::Twelve, waiting, bytes[i + 2]))
+    second_of_two(bytes[i + 1], bytes[i + 2])
 }

@@ -34,21 +34,21 @@ fn from_fours(red: u8, green: u8, blue: u8) -> u16
 }
 
 // The two pixels of three bytes of 12 bits: the first ends in the second byte, where the other begins.
-fn first_of_two(a: u8, b: u8) -> u16
-    ensures { λ r. ⌜ r ≡ firstOfTwo a b ⌝ }
+pub fn first_of_two(a: u8, b: u8) -> u16
+    ensures answer { λ r. ⌜ r ≡ firstOfTwo a b ⌝ }
 {
     from_fours(a / 16, a % 16, b / 16)
 }
 
-fn second_of_two(b: u8, c: u8) -> u16
-    ensures { λ r. ⌜ r ≡ secondOfTwo b c ⌝ }
+pub fn second_of_two(b: u8, c: u8) -> u16
+    ensures answer { λ r. ⌜ r ≡ secondOfTwo b c ⌝ }
 {
     from_fours(b % 16, c / 16, c % 16)
 }
 
 // The upper six bits of three bytes, red and blue without their lowest.
-fn from_eighteen(a: u8, b: u8, c: u8) -> u16
-    ensures { λ r. ⌜ r ≡ narrowed a b c ⌝ }
+pub fn from_eighteen(a: u8, b: u8, c: u8) -> u16
+    ensures answer { λ r. ⌜ r ≡ narrowed a b c ⌝ }
 {
     side_by_side(a / 4 / 2, b / 4, c / 4 / 2)
 }

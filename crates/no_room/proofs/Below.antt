@@ -8,6 +8,9 @@ use Rattle.status.proofs.memory_status as memory-status
 use Rattle.status.proofs.view_status as view-status
 use Rattle.status.proofs.transfer_status as transfer-status
 use Rattle.formats.proofs.bytewise.joined as joined
+use Rattle.formats.proofs.bytewise.first_of_two as first-of-two
+use Rattle.formats.proofs.bytewise.second_of_two as second-of-two
+use Rattle.formats.proofs.bytewise.from_eighteen as from-eighteen
 use Rattle.formats.proofs.bytewise.arrive as arrive
 use Rattle.formats.proofs.in_force.is_other as is-other
 use Rattle.formats.proofs.in_force.format_of as format-of
@@ -140,6 +143,15 @@ totals-none-one κs args x y u v p q = (same p q, refl)
 
 pub joined-one : Only joined.ended joined.Reads.Learnt
 joined-one κs args x y u v p q = (same p q, refl)
+
+pub first-of-two-one : Only first-of-two.ended first-of-two.Reads.Learnt
+first-of-two-one κs args x y u v p q = (same p q, refl)
+
+pub second-of-two-one : Only second-of-two.ended second-of-two.Reads.Learnt
+second-of-two-one κs args x y u v p q = (same p q, refl)
+
+pub from-eighteen-one : Only from-eighteen.ended from-eighteen.Reads.Learnt
+from-eighteen-one κs args x y u v p q = (same p q, refl)
 
 pub arrive-one : Only arrive.ended arrive.Reads.Learnt
 arrive-one κs args x y u v p q = (same p q, refl)

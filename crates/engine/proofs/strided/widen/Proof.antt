@@ -15,11 +15,11 @@ abbrev μ-loop : tie.MeasureT-loop
 loop-holds : tie.Need-loop-holds Inv-loop μ-loop
 loop-holds c = widen-first
 
-add-first-of-two : tie.Need-add-first-of-two Inv-loop μ-loop
-add-first-of-two c = search needs
+add-first-of-round : tie.Need-add-first-of-round Inv-loop μ-loop
+add-first-of-round c = search needs
 
-first-of-two-requires : tie.Need-first-of-two-requires Inv-loop μ-loop
-first-of-two-requires c κs = search needs
+first-of-round-requires : tie.Need-first-of-round-requires Inv-loop μ-loop
+first-of-round-requires c κs = search needs
 
 mul-line : tie.Need-mul-line Inv-loop μ-loop
 mul-line c = search needs
@@ -30,11 +30,11 @@ mul-line-2 c = search needs
 slice-write-line : tie.Need-slice-write-line Inv-loop μ-loop
 slice-write-line c = search needs
 
-add-second-of-two : tie.Need-add-second-of-two Inv-loop μ-loop
-add-second-of-two c = search needs
+add-second-of-round : tie.Need-add-second-of-round Inv-loop μ-loop
+add-second-of-round c = search needs
 
-second-of-two-requires : tie.Need-second-of-two-requires Inv-loop μ-loop
-second-of-two-requires c κs = search needs
+second-of-round-requires : tie.Need-second-of-round-requires Inv-loop μ-loop
+second-of-round-requires c κs = search needs
 
 mul-line-3 : tie.Need-mul-line-3 Inv-loop μ-loop
 mul-line-3 c = search needs
@@ -46,7 +46,7 @@ mul-line-4 : tie.Need-mul-line-4 Inv-loop μ-loop
 mul-line-4 c = search needs
 
 slice-write-line-2 : tie.Need-slice-write-line-2 Inv-loop μ-loop
-slice-write-line-2 c = let l = c .before .before .before .loop in omega (arith, length-set (l .line) (2 * l .k) (c .before .first-of-two .result), l .inv .long, c .before .before .before .before .before .before .pre .1, c .before .before .loop-test .taken)
+slice-write-line-2 c = let l = c .before .before .before .loop in omega (arith, length-set (l .line) (2 * l .k) (c .before .first-of-round .result), l .inv .long, c .before .before .before .before .before .before .pre .1, c .before .before .loop-test .taken)
 
 add-k : tie.Need-add-k Inv-loop μ-loop
 add-k c = search needs
@@ -55,7 +55,7 @@ loop-less : tie.Need-loop-less Inv-loop μ-loop
 loop-less c = search needs
 
 loop-again : tie.Need-loop-again Inv-loop μ-loop
-loop-again c = widen-next (c .before .before .before .loop .inv) (c .before .before .loop-test .taken) (c .before .before .before .before .before .before .pre .1) (c .before .first-of-two .ensures) (c .second-of-two .ensures)
+loop-again c = widen-next (c .before .before .before .loop .inv) (c .before .before .loop-test .taken) (c .before .before .before .before .before .before .pre .1) (c .before .first-of-round .ensures) (c .second-of-round .ensures)
 
 same-length : tie.Need-same-length Inv-loop μ-loop
 same-length c = c .before .loop .inv .long
@@ -70,13 +70,13 @@ widen-spec =
     Inv-loop
     μ-loop
     loop-holds
-    add-first-of-two
-    first-of-two-requires
+    add-first-of-round
+    first-of-round-requires
     mul-line
     mul-line-2
     slice-write-line
-    add-second-of-two
-    second-of-two-requires
+    add-second-of-round
+    second-of-round-requires
     mul-line-3
     add-line
     mul-line-4

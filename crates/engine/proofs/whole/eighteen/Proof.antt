@@ -1,6 +1,5 @@
 use Rattle.engine.proofs.Rounds.{eighteen-at}
-use Rattle.engine.specs.Whole.{valueOf}
-use mathlib.Core.Path.{ap, _∙_}
+use mathlib.Core.Path.{_∙_}
 use borrow.Author.Needs.{needs}
 use Rattle.engine.proofs.whole.eighteen.Statement.{statement}
 use Rattle.engine.proofs.whole.eighteen.Tie as tie
@@ -8,40 +7,36 @@ use Rattle.engine.proofs.whole.eighteen.Tie as tie
 mul-i : tie.Need-mul-i
 mul-i c = search needs
 
-shared-slice-read-arrive : tie.Need-shared-slice-read-arrive
-shared-slice-read-arrive c = search needs
+shared-slice-read-from-eighteen : tie.Need-shared-slice-read-from-eighteen
+shared-slice-read-from-eighteen c = search needs
 
-add-t7 : tie.Need-add-t7
-add-t7 c = search needs
+add-from-eighteen : tie.Need-add-from-eighteen
+add-from-eighteen c = search needs
 
-shared-slice-read-t9 : tie.Need-shared-slice-read-t9
-shared-slice-read-t9 c = search needs
+shared-slice-read-from-eighteen-2 : tie.Need-shared-slice-read-from-eighteen-2
+shared-slice-read-from-eighteen-2 c = search needs
 
-add-arrive : tie.Need-add-arrive
-add-arrive c = search needs
+add-from-eighteen-2 : tie.Need-add-from-eighteen-2
+add-from-eighteen-2 c = search needs
 
-shared-slice-read-arrive-2 : tie.Need-shared-slice-read-arrive-2
-shared-slice-read-arrive-2 c = search needs
+shared-slice-read-from-eighteen-3 : tie.Need-shared-slice-read-from-eighteen-3
+shared-slice-read-from-eighteen-3 c = search needs
 
-arrive-requires : tie.Need-arrive-requires
-arrive-requires c κs = search needs
-
-value-requires : tie.Need-value-requires
-value-requires c κs = search needs
+from-eighteen-requires : tie.Need-from-eighteen-requires
+from-eighteen-requires c κs = search needs
 
 returns : tie.Need-returns
-returns c = let s = c .before .before .before .before .before .before in c .value .ensures ∙ ap (λ a. valueOf (a .pixel)) (c .before .arrive .ensures) ∙ eighteen-at (s .args .bytes .now) (s .args .k) (s .pre)
+returns c = let s = c .before .before .before .before .before in c .from-eighteen .ensures ∙ eighteen-at (s .args .bytes .now) (s .args .k) (s .pre)
 
 pub eighteen-spec : {M : Type 1} → statement M
 eighteen-spec =
     tie.close
     (tie.spec
     mul-i
-    shared-slice-read-arrive
-    add-t7
-    shared-slice-read-t9
-    add-arrive
-    shared-slice-read-arrive-2
-    arrive-requires
-    value-requires
+    shared-slice-read-from-eighteen
+    add-from-eighteen
+    shared-slice-read-from-eighteen-2
+    add-from-eighteen-2
+    shared-slice-read-from-eighteen-3
+    from-eighteen-requires
     returns)

@@ -1,4 +1,6 @@
 // The boot comparison: a trace against the 23 commands of the boot sequence.
+#![tactic(auto)]
+
 ghost use Rattle.std.specs.Prelude.{◌≡◌, [], ◌∷◌, ◌-◌, ◌≤◌, min, max, take, drop};
 ghost use Rattle.lists.specs.Fixed.{places};
 ghost use Rattle.sequence.specs.Sequence.{boot_sequence};
@@ -9,7 +11,7 @@ use lists::{PLACES, Params, TraceRecord};
 use sequence::BootStep;
 
 // A match, or the number of the first step that differs or is missing.
-#[derive(Drop)]
+#[derive(Clone, Copy)]
 pub enum BootCheck {
     Match,
     Differs(u8),
@@ -17,7 +19,7 @@ pub enum BootCheck {
 }
 
 // The answer, and the record that differs, or an empty one where none was found.
-#[derive(Drop)]
+#[derive(Clone, Copy)]
 pub struct Compared {
     pub check: BootCheck,
     pub found: TraceRecord,

@@ -1,4 +1,6 @@
 // What a command byte is: its kind, and how many parameters it applies at. All that is known of a byte stands in one table.
+#![tactic(auto)]
+
 ghost use Rattle.std.specs.Prelude.{◌≡◌};
 ghost use Rattle.codes.specs.Codes.{kind_number, is, starts_run, has_effect, place_of};
 ghost use Rattle.codes.specs.Table.{kind_numbered, decoded};
@@ -8,7 +10,7 @@ pub use numbers::table;
 mod numbers;
 
 // The kinds, by the names of their commands. The twelve from Porctrl on are stored; the last is that of all other bytes.
-#[derive(Drop)]
+#[derive(Clone, Copy)]
 pub enum Kind {
     Swreset,
     Slpin,
@@ -40,7 +42,7 @@ pub enum Kind {
 }
 
 // A command byte and what it is. `need` is how many parameters it applies at, 0 where it applies nothing.
-#[derive(Drop)]
+#[derive(Clone, Copy)]
 pub struct Command {
     pub code: u8,
     pub kind: Kind,

@@ -1,9 +1,11 @@
 // Digests of numbers, by which two pictures are told apart.
+#![tactic(auto)]
+
 ghost use Rattle.std.specs.Prelude.{◌≡◌};
 ghost use Rattle.digests.specs.Digest.{digested};
 
 // Two numbers below 2^32.
-#[derive(Drop)]
+#[derive(Clone, Copy)]
 pub struct Halves {
     pub first: u64,
     pub second: u64,

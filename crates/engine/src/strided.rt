@@ -9,7 +9,7 @@ ghost use Rattle.engine.specs.Rows.{laid};
 use crate::whole::{eighteen, first_of_round, low_first, second_of_round};
 
 // Where the pixels of a stretch go: from an index on, each so many cells forth, or so many back.
-#[derive(Drop)]
+#[derive(Clone, Copy)]
 struct Stride {
     first: usize,
     forth: usize,

@@ -93,6 +93,7 @@ fn after_two(format: Format, a: u8, b: u8, c: u8) -> Arrived
 }
 
 // A byte arrives at what waits: it waits too, or completes a pixel, or both.
+#[tactic(auto, unfolding(crate::specs::Bytes::arrival))]
 pub fn arrive(format: Format, waiting: Carry, byte: u8) -> Arrived
     ensures answer { result ≡ arrival format waiting byte }
 {

@@ -1,9 +1,11 @@
 // Bytes to pixels, by the format in force. No function here asks anything of its arguments.
+#![tactic(auto)]
+
 pub mod bytewise;
 pub mod in_force;
 
 // How bytes make a pixel: 12 bits, 16 bits with the high byte or the low byte first, 18 bits.
-#[derive(Drop)]
+#[derive(Clone, Copy)]
 pub enum Format {
     Twelve,
     HighFirst,
@@ -12,7 +14,7 @@ pub enum Format {
 }
 
 // The bytes that wait for the rest of their pixel, the first one first.
-#[derive(Drop)]
+#[derive(Clone, Copy)]
 pub enum Carry {
     Empty,
     One(u8),
@@ -20,14 +22,14 @@ pub enum Carry {
 }
 
 // The pixel that a byte completes, if it completes one.
-#[derive(Drop)]
+#[derive(Clone, Copy)]
 pub enum Pixel {
     Complete(u16),
     Pending,
 }
 
 // What a byte leaves.
-#[derive(Drop)]
+#[derive(Clone, Copy)]
 pub struct Arrived {
     pub waiting: Carry,
     pub pixel: Pixel,

@@ -1,1 +1,2 @@
 // Laws of the controller as a whole: this crate has no code, only theorems over what the others define.
+#![tactic(auto)]

@@ -1,5 +1,7 @@
 // What a number of memory looks like: as it is, on the glass, and on the glass as the backlight lets it be seen. It goes by numbers alone:
 // no panel stands here, and no place.
+#![tactic(auto)]
+
 pub use dimming::dim;
 pub use filling::fill;
 pub use glass::seen;
@@ -9,7 +11,7 @@ mod filling;
 mod glass;
 mod tables;
 
-#[derive(Drop)]
+#[derive(Clone, Copy)]
 pub enum FrameView {
     Raw,
     Glass,
@@ -17,7 +19,7 @@ pub enum FrameView {
 }
 
 // What a view goes by.
-#[derive(Drop)]
+#[derive(Clone, Copy)]
 pub struct Light {
     pub lit: bool,
     pub plain: bool,
@@ -26,7 +28,7 @@ pub struct Light {
 }
 
 // A view as every pixel of it is made: the light in which it is a glass, and whether that is dimmed.
-#[derive(Drop)]
+#[derive(Clone, Copy)]
 struct Look {
     light: Light,
     dims: bool,

@@ -1,4 +1,6 @@
 // Lines of text in a lent buffer. What does not fit is left out.
+#![tactic(auto)]
+
 ghost use Rattle.std.specs.Prelude.{◌≡◌};
 ghost use Rattle.text.specs.Text.{appended};
 ghost use Rattle.lines.specs.Lines.{numbers, hex_bytes, line};

@@ -1,4 +1,6 @@
 // Warnings and trace records as the lines that the program prints of them, in a lent buffer. What does not fit is left out.
+#![tactic(auto)]
+
 ghost use Rattle.std.specs.Prelude.{◌≡◌, take};
 ghost use Rattle.text.specs.Text.{appended};
 ghost use Rattle.lines.specs.Lines.{texts, hex_bytes};

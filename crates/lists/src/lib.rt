@@ -1,4 +1,6 @@
 // Fixed lists and their entries: a command's parameters, the stored commands, the trace and the warnings; and one list copied over another.
+#![tactic(auto)]
+
 ghost use Rattle.std.specs.Prelude.{◌≡◌, ◌+◌, ◌-◌, min, ltb, eqb};
 ghost use Rattle.lists.specs.Entries.{some, stored_long};
 ghost use Rattle.lists.specs.Params.{no_params, filled, excess, differ};
@@ -10,21 +12,21 @@ mod copying;
 pub const MAX_PARAMS: u8 = 14;
 
 // The parameter bytes that followed a command: the first `count` of 14.
-#[derive(Drop)]
+#[derive(Clone, Copy)]
 pub struct Params {
     pub bytes: [u8; 14],
     pub count: u8,
 }
 
 // The place of one stored command: no list yet, or its last one.
-#[derive(Drop)]
+#[derive(Clone, Copy)]
 pub struct Stored {
     pub present: bool,
     pub params: Params,
 }
 
 // A command as the trace keeps it. Pixel bytes are counted, not kept.
-#[derive(Drop)]
+#[derive(Clone, Copy)]
 pub struct TraceRecord {
     pub at: u64,
     pub pixel_bytes: u64,
@@ -33,7 +35,7 @@ pub struct TraceRecord {
 }
 
 // A timing rule that was broken, by which command and when.
-#[derive(Drop)]
+#[derive(Clone, Copy)]
 pub struct Warning {
     pub at: u64,
     pub rule: u8,
@@ -41,7 +43,7 @@ pub struct Warning {
 }
 
 // The trace record that data is added to.
-#[derive(Drop)]
+#[derive(Clone, Copy)]
 pub enum Current {
     Nothing,
     At(u8),

@@ -1,4 +1,6 @@
 // The stored form of a log of transfers: its check, and the record at an offset.
+#![tactic(auto)]
+
 ghost use Rattle.std.specs.Prelude.{◌≡◌, ◌+◌, ◌≤◌, ◌<◌, ◌^◌, min, length, take, drop};
 ghost use Rattle.status.specs.Numbers.{number};
 ghost use Rattle.logs.specs.Log.{value_of, record_length, head_at, log_refusal, bad_offset};
@@ -8,14 +10,14 @@ use status::Status;
 pub const MAX_LOG: usize = 65536;
 
 // What the check of a log answers: OK or why not, and the offset of a bad record.
-#[derive(Drop)]
+#[derive(Clone, Copy)]
 pub struct Checked {
     pub offset: usize,
     pub status: Status,
 }
 
 // A record of the log: its time, where its bytes start and end, and what its tag says.
-#[derive(Drop)]
+#[derive(Clone, Copy)]
 pub struct Head {
     pub t: u64,
     pub start: usize,

@@ -1,16 +1,18 @@
 // The rows that the next publishing copies. No other crate looks into the marks.
+#![tactic(auto)]
+
 ghost use Rattle.std.specs.Prelude.{◌≡◌, min, max};
 ghost use Rattle.marks.specs.Rows.{widened, no_rows, all_rows, of_span, mark, mark_rows, span_of, span_bad, marks_bad};
 
 // Rows of the panel, first and last.
-#[derive(Drop)]
+#[derive(Clone, Copy)]
 pub enum Span {
     Nothing,
     Rows(u16, u16),
 }
 
 // The rows that are marked.
-#[derive(Drop)]
+#[derive(Clone, Copy)]
 pub struct Marks {
     span: Span,
 }

@@ -1,6 +1,8 @@
 // Replays a log from standard input and prints the panel that it leaves, or why it is refused. With the word `cases` it takes a list
 // of logs and does so for each of them, after a line with its number. A list has of each log four bytes, its length, lowest first,
 // and the log.
+#![tactic(auto)]
+
 ghost use Rattle.std.specs.Prelude.{◌≡◌, ◌≤◌, length};
 
 // A longer list is not run.
@@ -96,7 +98,7 @@ fn is_cases(word: [u8; 5]) -> bool {
 }
 
 // What the arguments ask for: a log to replay, a list of them, or nothing that there is.
-#[derive(Drop)]
+#[derive(Clone, Copy)]
 enum Asked {
     Log,
     Cases,

@@ -5,7 +5,7 @@ use crate::numbers::Number;
 use crate::{numbers, words};
 
 // How many bytes a buffer got, or none: then it is 0 and not good, and long where only the room is missing.
-#[derive(Drop)]
+#[derive(Clone, Copy)]
 pub(crate) struct Expanded {
     pub(crate) count: usize,
     pub(crate) good: bool,

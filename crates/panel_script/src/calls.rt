@@ -8,7 +8,7 @@ use st7789::{Answer, Controller, PanelMemory, St7789p3};
 use status::Status;
 
 // How much of the memory, the frame and the view buffer is lent.
-#[derive(Drop)]
+#[derive(Clone, Copy)]
 pub(crate) struct Lent {
     pub(crate) memory: usize,
     pub(crate) frame: usize,

@@ -129,14 +129,14 @@ pub(crate) const TOO_LONG: usize = 7;
 pub(crate) const NO_CASE: usize = 8;
 
 // The number of each word, how many bytes the line lists, and what is wrong.
-#[derive(Drop)]
+#[derive(Clone, Copy)]
 struct Words {
     numbers: [u64; 8],
     count: usize,
     wrong: usize,
 }
 
-#[derive(Drop)]
+#[derive(Clone, Copy)]
 pub(crate) struct Line {
     pub(crate) call: usize,
     pub(crate) none: bool,

@@ -1,4 +1,6 @@
 // Reads a script of calls from standard input, runs each on the panel, and prints what it answers and the panel at the end.
+#![tactic(auto)]
+
 ghost use Rattle.std.specs.Prelude.{◌≡◌, ◌≤◌, length};
 
 use board::PanelConfig;
@@ -167,7 +169,7 @@ fn run_list(text: &[u8]) {
 }
 
 // What the arguments ask for: a script to run, a list of them, or nothing that there is.
-#[derive(Drop)]
+#[derive(Clone, Copy)]
 enum Asked {
     Script,
     Cases,

@@ -4,7 +4,7 @@ ghost use mathlib.Core.List.{foldl};
 ghost use Rattle.panel_script.specs.Numbers.{digit_value, no_number, zero_number, next, decimal_of, hex_of};
 
 // A number, or none: then it is 0 and not good.
-#[derive(Drop)]
+#[derive(Clone, Copy)]
 pub(crate) struct Number {
     pub(crate) value: u64,
     pub(crate) good: bool,

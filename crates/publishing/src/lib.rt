@@ -1,4 +1,6 @@
 // Publishing: the rows of the span copied to the frame, as one stretch, and the flags beside them.
+#![tactic(auto)]
+
 ghost use Rattle.std.specs.Prelude.{◌≡◌, ℕ, ◌+◌, ◌*◌, ◌≤◌, ◌<◌, length, false, cond};
 ghost use Rattle.marks.specs.declared.Span.TheVariants.{Nothing, Rows};
 ghost use Rattle.marks.specs.Rows.{no_rows, span_bad};
@@ -11,7 +13,7 @@ use st7789::{Controller, St7789p3};
 use status::Status;
 
 // The panel's flags as they go with the frame.
-#[derive(Drop)]
+#[derive(Clone, Copy)]
 pub struct Flags {
     pub powered: bool,
     pub sleeping: bool,

@@ -1,4 +1,6 @@
 // A log of transfers replayed on a fresh panel without memory, and what the program prints of it.
+#![tactic(auto)]
+
 ghost use Rattle.std.specs.Prelude.{◌≡◌, [], ◌∷◌};
 ghost use Rattle.lines.specs.Lines.{ascii, line};
 ghost use Rattle.status.specs.Numbers.{number};

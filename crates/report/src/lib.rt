@@ -1,4 +1,6 @@
 // What the program prints of a panel, as text in a lent buffer. What does not fit is left out.
+#![tactic(auto)]
+
 ghost use Rattle.std.specs.Prelude.{◌≡◌, take};
 ghost use Rattle.text.specs.Text.{appended};
 ghost use Rattle.report.specs.Report.{flag, regs_line, win_line, cnt_line, dirty_line, boot_line, state_lines, report};

@@ -1,11 +1,13 @@
 // The boot sequence: what the official firmware sends between power-on and the first flush.
+#![tactic(auto)]
+
 ghost use Rattle.std.specs.Prelude.{◌≡◌, get_or};
 ghost use Rattle.sequence.specs.Sequence.{boot_sequence, past_step};
 
 use lists::Params;
 
 // One command of the boot sequence. The wait after it is the driver's own: nothing here enforces it.
-#[derive(Drop)]
+#[derive(Clone, Copy)]
 pub struct BootStep {
     pub cmd: u8,
     pub params: Params,

@@ -1,4 +1,6 @@
 // The ST7789P3 panel: a small controller, and the lists flat beside it. Panel memory is lent.
+#![tactic(auto)]
+
 use board::{PanelConfig, Power};
 use chip::Chip;
 use lists::{Current, PLACES, Stored, TraceRecord, Warning};
@@ -15,7 +17,7 @@ mod switches;
 mod transfer;
 
 // What was counted since the panel was fresh; the last two are pixels that vanished, in an inverted window and where no cell was.
-#[derive(Drop)]
+#[derive(Clone, Copy)]
 pub struct Counts {
     pub commands: u64,
     pub ramwr_count: u64,
@@ -54,7 +56,7 @@ pub struct St7789p3 {
 }
 
 // Whether a transfer comes with panel memory.
-#[derive(Drop)]
+#[derive(Clone, Copy)]
 pub enum PanelMemory {
     Lent,
     Without,

@@ -1,4 +1,6 @@
 // 01's table of refusals: names, and the tests that look at numbers alone.
+#![tactic(auto)]
+
 ghost use Rattle.std.specs.Prelude.{◌≡◌, eqb};
 ghost use Rattle.lists.specs.Entries.{some};
 ghost use Rattle.status.specs.Numbers.{number};
@@ -9,7 +11,7 @@ pub const PANEL_PIXELS: usize = 76800;
 const HIGH: u64 = 0x8000_0000_0000_0000;
 
 // What an operation says of its arguments: that it accepts them, or why it refuses.
-#[derive(Drop)]
+#[derive(Clone, Copy)]
 pub enum Status {
     Ok,
     BadState,

@@ -1,4 +1,6 @@
 // Text written into a lent buffer: bytes, decimal numbers and hex digits. What does not fit is left out.
+#![tactic(auto)]
+
 ghost use Rattle.std.specs.Prelude.{◌≡◌, [], ◌∷◌, map, ◌≤◌, ◌<◌, min};
 ghost use Rattle.text.specs.Text.{appended};
 ghost use Rattle.text.specs.Numbers.{digit_code, digits, size, decimal, hex_digits};

@@ -1,4 +1,6 @@
 // For timing from outside: what a host calls, run many times over lent buffers. No rule of 01 stands here and no crate is above it.
+#![tactic(auto)]
+
 use board::{PanelConfig, Power};
 use chip::Registers;
 use marks::{Marks, Span};
@@ -8,7 +10,7 @@ use status::Status;
 use views::FrameView;
 
 // One transfer of a table: when, the dc level, the CS release, and which part of the bytes.
-#[derive(Drop)]
+#[derive(Clone, Copy)]
 struct Segment {
     t: u64,
     dc: bool,

@@ -1,4 +1,6 @@
 // The timing lint: what the firmware did too early. Warnings only, never enforced. Times are nanoseconds.
+#![tactic(auto)]
+
 ghost use Rattle.std.specs.Prelude.{◌≡◌, ◌-◌, ◌≤◌, length, get_or};
 ghost use Rattle.timing.specs.Lint.{soon_after, breaks1, breaks2, wrong_colmod, breaks3, breaks4, broken_by, only, rules_of, fresh_times, times_after};
 
@@ -11,14 +13,14 @@ const SLEEP_CYCLE: u64 = 120_000_000;
 
 const SWRESET_SETTLE: u64 = 5_000_000;
 
-#[derive(Drop)]
+#[derive(Clone, Copy)]
 pub enum Moment {
     Never,
     At(u64),
 }
 
 // When the panel last left sleep, if it has, when it last entered it, and when it was last reset by a command, if it was.
-#[derive(Drop)]
+#[derive(Clone, Copy)]
 pub struct Times {
     pub slpout: Moment,
     pub slpin: u64,
@@ -26,7 +28,7 @@ pub struct Times {
 }
 
 // Which of the four rules a command breaks.
-#[derive(Drop)]
+#[derive(Clone, Copy)]
 pub struct Broken {
     pub rule1: bool,
     pub rule2: bool,

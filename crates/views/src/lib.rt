@@ -1,4 +1,6 @@
 // What a reviewer sees of a panel: one pixel of a view, a whole view, and a row lent out of memory.
+#![tactic(auto)]
+
 pub use lent::row;
 pub use light::FrameView;
 pub use one::pixel;
@@ -11,13 +13,13 @@ mod one;
 mod whole;
 
 // Which of two lent memories a row is lent from.
-#[derive(Drop)]
+#[derive(Clone, Copy)]
 pub enum Memory {
     Panel,
     Frame,
 }
 
-#[derive(Drop)]
+#[derive(Clone, Copy)]
 pub struct Seen {
     pub pixel: u16,
     pub status: Status,

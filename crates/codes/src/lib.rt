@@ -49,6 +49,7 @@ pub struct Command {
     pub need: u8,
 }
 
+#[tactic(auto, unfolding(crate::specs::Table::kind_numbered))]
 fn kind_numbered(number: u16) -> Kind
     ensures { result ≡ kind_numbered number }
 {

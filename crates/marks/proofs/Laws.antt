@@ -1,6 +1,6 @@
 -- The laws of the marks: what is marked after a row more, the span, and when they are good. With these nothing else has to look into them.
 use Prim.Native.Nat.{ℕ, ◌≤◌, min, max}
-use mathlib.Core.Path.{◌≡◌, refl, ap, ◌∙◌}
+use mathlib.Core.Path.{◌≡◌, refl, ap}
 use mathlib.Core.Bool.{Bool, true, false, ◌&&◌, ◌||◌, true≢false}
 use native.Mathlib.Omega.{arith}
 use borrow.Author.Tests.{ltb-false, le-ltb, leb-true, leb-false}

@@ -49,6 +49,7 @@ fn span_bad(span: Span) -> bool
 
 impl Marks {
     // No row.
+    #[tactic(auto, unfolding(crate::specs::Rows::no_rows))]
     pub fn none() -> Marks
         ensures answer { result ≡ no_rows }
     {
@@ -58,6 +59,7 @@ impl Marks {
     }
 
     // Every row.
+    #[tactic(auto, unfolding(crate::specs::Rows::all_rows))]
     pub fn all() -> Marks
         ensures answer { result ≡ all_rows }
     {
@@ -67,6 +69,7 @@ impl Marks {
     }
 
     // Those of a span as it stands, also of one that no call leaves.
+    #[tactic(auto, unfolding(crate::specs::Rows::of_span))]
     pub fn of_span(span: Span) -> Marks
         ensures answer { result ≡ of_span span }
     {
@@ -74,6 +77,7 @@ impl Marks {
     }
 
     // One row more.
+    #[tactic(auto, unfolding(crate::specs::Rows::mark))]
     pub fn mark_row(self, row: u16) -> Marks
         ensures answer { result ≡ mark self row }
     {
@@ -91,6 +95,7 @@ impl Marks {
     }
 
     // The first and the last marked row.
+    #[tactic(auto, unfolding(crate::specs::Rows::span_of))]
     pub fn span(self) -> Span
         ensures answer { result ≡ span_of self }
     {
@@ -98,6 +103,7 @@ impl Marks {
     }
 
     // Whether no pixel leaves such marks.
+    #[tactic(auto, unfolding(crate::specs::Rows::marks_bad))]
     pub fn bad(self) -> bool
         ensures answer { result ≡ marks_bad self }
     {

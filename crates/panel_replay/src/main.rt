@@ -5,32 +5,43 @@
 
 ghost use Rattle.std.specs.Prelude.{◌≡◌, ◌≤◌, length};
 
+use std::env::{Env, FillError};
+use std::io;
+use std::io::{Print, Stderr, Stdin, Stdout};
+
 // A longer list is not run.
 const MAX_LIST: usize = 1048576;
 
-fn tell(what: &[u8]) {
-    io::write_all(2, b"panel-replay: ");
-    io::write_all(2, what);
-    io::write_all(2, b"\n");
+// Where the program writes.
+#[derive(Clone, Copy)]
+struct Streams {
+    out: Stdout,
+    err: Stderr,
 }
 
-fn print(out: &[u8], used: usize) {
+fn tell(stderr: Stderr, what: &[u8]) -> io::Result<()> {
+    stderr.write_all(b"panel-replay: ")?;
+    stderr.write_all(what)?;
+    stderr.write_all(b"\n")
+}
+
+fn print(stdout: Stdout, out: &[u8], used: usize) -> io::Result<()> {
     if used <= out.len() {
-        io::write_all(1, &out[..used]);
+        return stdout.write_all(&out[..used]);
     }
+    Ok(())
 }
 
-fn show(log: &[u8]) {
+fn show(stdout: Stdout, log: &[u8]) -> io::Result<()> {
     let mut out = [0u8; 18000];
     let written = replay::print_log(log, &mut out);
-    print(&out, written);
+    print(stdout, &out, written)
 }
 
-fn show_numbered(number: u64, log: &[u8]) {
-    io::write_all(1, b"log ");
-    io::print_decimal(1, number);
-    io::write_all(1, b"\n");
-    show(log);
+fn show_numbered(stdout: Stdout, number: u64, log: &[u8]) -> io::Result<()> {
+    stdout.write_all(b"log ")?;
+    stdout.println(number)?;
+    show(stdout, log)
 }
 
 fn wide(n: u8) -> usize
@@ -44,38 +55,37 @@ fn length_of(a: u8, b: u8, c: u8, d: u8) -> usize {
 }
 
 // The logs of a list, one after the other. One that the list ends in is not run.
-fn run_logs(list: &[u8]) {
+fn run_logs(streams: Streams, list: &[u8]) -> io::Result<()> {
     let mut at = 0;
     let mut number = 0;
     while at + 4 <= list.len() {
         let size = length_of(list[at], list[at + 1], list[at + 2], list[at + 3]);
         let from = at + 4;
         if list.len() - from < size {
-            tell(b"the list ends within a log");
-            return;
+            return tell(streams.err, b"the list ends within a log");
         }
         number += 1;
         at = from + size;
-        show_numbered(number, &list[from..at]);
+        show_numbered(streams.out, number, &list[from..at])?;
     }
     if at < list.len() {
-        tell(b"the list ends within a length");
+        return tell(streams.err, b"the list ends within a length");
     }
+    Ok(())
 }
 
-fn run_list(list: &[u8]) {
+fn run_list(streams: Streams, list: &[u8]) -> io::Result<()> {
     if MAX_LIST < list.len() {
-        tell(b"a list of logs has at most 1048576 bytes");
-        return;
+        return tell(streams.err, b"a list of logs has at most 1048576 bytes");
     }
-    run_logs(list);
+    run_logs(streams, list)
 }
 
 // Room for one byte more than the longest log.
-fn replay_one() {
+fn replay_one(stdout: Stdout, mut stdin: Stdin) -> io::Result<()> {
     let mut log = [0u8; 65537];
-    let n = io::read_full(0, &mut log);
-    show(&log[..n]);
+    let n = input::read_full(&mut stdin, &mut log)?;
+    show(stdout, &log[..n])
 }
 
 // Room for one byte more than the longest list.
@@ -85,10 +95,10 @@ fn room() -> [u8; 1048577]
     [0; 1048577]
 }
 
-fn replay_list() {
+fn replay_list(streams: Streams, mut stdin: Stdin) -> io::Result<()> {
     let mut list = room();
-    let n = io::read_full(0, &mut list);
-    run_list(&list[..n]);
+    let n = input::read_full(&mut stdin, &mut list)?;
+    run_list(streams, &list[..n])
 }
 
 fn is_cases(word: [u8; 5]) -> bool {
@@ -105,23 +115,33 @@ enum Asked {
     Nothing,
 }
 
-fn read_arguments() -> Asked {
+fn read_arguments(rt: &impl Env) -> Asked {
     let mut word = [0u8; 5];
-    let n = os::arg(1, &mut word);
-    let count = os::arg_count();
-    if count < 2 {
+    let mut more = [0u8; 1];
+    let first = rt.arg(1, &mut word);
+    let second = rt.arg(2, &mut more);
+    if matches!(first, Err(FillError::NotPresent)) {
         return Asked::Log;
     }
-    if (count == 2) & (n == 5) & is_cases(word) {
+    if matches!(second, Err(FillError::NotPresent)) & matches!(first, Ok(5)) & is_cases(word) {
         return Asked::Cases;
     }
     Asked::Nothing
 }
 
-fn main() {
-    match read_arguments() {
-        Asked::Log => replay_one(),
-        Asked::Cases => replay_list(),
-        Asked::Nothing => tell(b"takes no words, or the word `cases` for a list of logs"),
+fn main(rt: HostRuntime) -> io::Result<()> {
+    let streams = Streams {
+        out: rt.stdout(),
+        err: rt.stderr(),
+    };
+    match read_arguments(&rt) {
+        Asked::Log => replay_one(streams.out, rt.stdin()),
+        Asked::Cases => replay_list(streams, rt.stdin()),
+        Asked::Nothing => {
+            tell(
+                streams.err,
+                b"takes no words, or the word `cases` for a list of logs",
+            )
+        }
     }
 }

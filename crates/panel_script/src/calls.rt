@@ -6,6 +6,8 @@ use lists::{PLACES, Params, Warning};
 use pixels::Totals;
 use st7789::{Answer, Controller, PanelMemory, St7789p3};
 use status::Status;
+use std::io;
+use std::io::Stdout;
 
 // How much of the memory, the frame and the view buffer is lent.
 #[derive(Clone, Copy)]
@@ -63,16 +65,17 @@ fn memory_of(call: usize) -> PanelMemory {
 }
 
 // The panel of an answer, its refusal printed.
-fn answered(answer: Answer) -> St7789p3 {
+fn answered(stdout: Stdout, answer: Answer) -> io::Result<St7789p3> {
     let status = answer.status;
-    print::refusal(status);
-    answer.panel
+    print::refusal(stdout, status)?;
+    Ok(answer.panel)
 }
 
 // The totals of a transfer that asked for them, or its refusal.
-fn print_sent(call: usize, status: Status, totals: Totals) {
+fn print_sent(stdout: Stdout, call: usize, status: Status, totals: Totals) -> io::Result<()> {
     if (call == forms::TOTALS) & status::accepted(status) {
         print::form(
+            stdout,
             b"totals 0 0 0\n",
             [
                 totals.stored,
@@ -84,21 +87,27 @@ fn print_sent(call: usize, status: Status, totals: Totals) {
                 0,
                 0,
             ],
-        );
+        )?;
     }
-    print::refusal(status);
+    print::refusal(stdout, status)
 }
 
 // transfer TIME DC CS BYTES, bare TIME DC CS BYTES, totals TIME DC CS BYTES
-fn send(panel: St7789p3, read: Line, bytes: &[u8], memory: &mut [u16]) -> St7789p3 {
+fn send(
+    stdout: Stdout,
+    panel: St7789p3,
+    read: Line,
+    bytes: &[u8],
+    memory: &mut [u16],
+) -> io::Result<St7789p3> {
     let n = read.numbers;
     let dc = n[2] == 1;
     let release = n[3] == 1;
     let answer = panel.transfer(n[1], dc, bytes, release, memory_of(read.call), memory);
     let status = answer.status;
     let totals = answer.totals;
-    print_sent(read.call, status, totals);
-    answer.panel
+    print_sent(stdout, read.call, status, totals)?;
+    Ok(answer.panel)
 }
 
 fn domain(n: u64) -> BoardDomain {
@@ -113,27 +122,32 @@ fn domain(n: u64) -> BoardDomain {
     }
 }
 
-fn publish(panel: St7789p3, memory: &[u16], frame: &mut [u16]) -> St7789p3 {
+fn publish(
+    stdout: Stdout,
+    panel: St7789p3,
+    memory: &[u16],
+    frame: &mut [u16],
+) -> io::Result<St7789p3> {
     let answer = publishing::publish(panel, memory, frame);
     let status = answer.status;
     let span = answer.span;
     let flags = answer.flags;
-    looks::print_published(status, span, flags);
-    answer.panel
+    looks::print_published(stdout, status, span, flags)?;
+    Ok(answer.panel)
 }
 
-fn print_taken(warnings: [Warning; PLACES], count: u8) {
+fn print_taken(stdout: Stdout, warnings: [Warning; PLACES], count: u8) -> io::Result<()> {
     let mut out = [0u8; 5000];
     let used = report::put_warnings(&mut out, 0, warnings, count);
-    print::one(b"taken 0\n", count as u64);
-    print::show(&out, used);
+    print::one(stdout, b"taken 0\n", count as u64)?;
+    print::show(stdout, &out, used)
 }
 
-fn take_warnings(panel: St7789p3) -> St7789p3 {
+fn take_warnings(stdout: Stdout, panel: St7789p3) -> io::Result<St7789p3> {
     let taken = panel.take_warnings();
     let warnings = taken.warnings;
-    print_taken(warnings, taken.count);
-    taken.panel
+    print_taken(stdout, warnings, taken.count)?;
+    Ok(taken.panel)
 }
 
 fn fill(numbers: &mut [u16], value: u16) {
@@ -185,28 +199,29 @@ fn changed(mut panel: St7789p3, read: Line, bytes: &[u8]) -> St7789p3 {
 
 // What a call leaves of the panel and of the lent numbers.
 pub(crate) fn run(
+    stdout: Stdout,
     panel: St7789p3,
     read: Line,
     bytes: &[u8],
     memory: &mut [u16],
     frame: &mut [u16],
-) -> St7789p3 {
+) -> io::Result<St7789p3> {
     let n = read.numbers;
     let call = read.call;
     match call {
-        forms::TRANSFER | forms::BARE | forms::TOTALS => send(panel, read, bytes, memory),
-        forms::RESET => answered(panel.reset(domain(n[1]), memory)),
-        forms::FRESH => answered(St7789p3::new(config(n[1], n[2], n[3]), memory)),
-        forms::PUBLISH => publish(panel, memory, frame),
-        forms::TAKE_WARNINGS => take_warnings(panel),
+        forms::TRANSFER | forms::BARE | forms::TOTALS => send(stdout, panel, read, bytes, memory),
+        forms::RESET => answered(stdout, panel.reset(domain(n[1]), memory)),
+        forms::FRESH => answered(stdout, St7789p3::new(config(n[1], n[2], n[3]), memory)),
+        forms::PUBLISH => publish(stdout, panel, memory, frame),
+        forms::TAKE_WARNINGS => take_warnings(stdout, panel),
         forms::MEMORY => {
             fill(memory, kinds::short(n[2]));
-            panel
+            Ok(panel)
         }
         forms::FRAME => {
             fill(frame, kinds::short(n[2]));
-            panel
+            Ok(panel)
         }
-        _ => changed(panel, read, bytes),
+        _ => Ok(changed(panel, read, bytes)),
     }
 }

@@ -6,8 +6,12 @@ ghost use Rattle.std.specs.Prelude.{◌≡◌, ◌≤◌, length};
 use board::PanelConfig;
 use calls::Lent;
 use forms::Line;
+use print::Streams;
 use st7789::St7789p3;
 use status::PANEL_PIXELS;
+use std::env::{Env, FillError};
+use std::io;
+use std::io::{Print, Stdout};
 
 mod bytes;
 mod calls;
@@ -33,6 +37,7 @@ fn within(script: &[u8], end: usize) -> usize {
 
 // What a call leaves of the panel, with as much of memory, frame and view as it is lent.
 fn call(
+    stdout: Stdout,
     panel: St7789p3,
     read: Line,
     line: &[u8],
@@ -41,20 +46,22 @@ fn call(
     memory: &mut [u16],
     frame: &mut [u16],
     view: &mut [u16],
-) -> St7789p3 {
+) -> io::Result<St7789p3> {
     let own = calls::lent_to(read.call, lent);
     let cells = forms::least(own.memory, memory.len());
     let framed = forms::least(own.frame, frame.len());
     let seen = forms::least(own.view, view.len());
     looks::look(
+        stdout,
         panel,
         read,
         line,
         &memory[..cells],
         &frame[..framed],
         &mut view[..seen],
-    );
+    )?;
     calls::run(
+        stdout,
         panel,
         read,
         bytes,
@@ -65,13 +72,14 @@ fn call(
 
 // Runs a script; `head` is the line that begins it in a list, or nothing.
 fn run(
+    streams: Streams,
     head: &[u8],
     script: &[u8],
     bytes: &mut [u8],
     memory: &mut [u16],
     frame: &mut [u16],
     view: &mut [u16],
-) {
+) -> io::Result<()> {
     let cfg = PanelConfig::new(true);
     let mut panel = St7789p3::fresh(cfg);
     let mut lent = Lent {
@@ -90,11 +98,11 @@ fn run(
         let wrong = forms::first(within(script, end), read.wrong);
         number += 1;
         if wrong != 0 {
-            print::bad_line(head, number, wrong);
-            return;
+            return print::bad_line(streams, head, number, wrong);
         }
         lent = calls::lend(lent, read);
         panel = call(
+            streams.out,
             panel,
             read,
             line,
@@ -103,18 +111,26 @@ fn run(
             memory,
             frame,
             view,
-        );
+        )?;
         at = end + 1;
     }
-    dump::print(panel, memory, frame, view);
+    dump::print(streams.out, panel, memory, frame, view)
 }
 
-fn start(head: &[u8], script: &[u8]) {
+fn start(streams: Streams, head: &[u8], script: &[u8]) -> io::Result<()> {
     let mut bytes = [0u8; 65537];
     let mut memory = [0u16; 76801];
     let mut frame = [0u16; 76801];
     let mut view = [0u16; 76801];
-    run(head, script, &mut bytes, &mut memory, &mut frame, &mut view);
+    run(
+        streams,
+        head,
+        script,
+        &mut bytes,
+        &mut memory,
+        &mut frame,
+        &mut view,
+    )
 }
 
 // Whether a line begins a case: `case NAME`.
@@ -139,33 +155,31 @@ fn case_size(text: &[u8]) -> usize
 }
 
 // Scripts one after the other, each begun by a line `case NAME`, which is printed before what its script prints.
-fn run_cases(text: &[u8]) {
+fn run_cases(streams: Streams, text: &[u8]) -> io::Result<()> {
     let mut at = 0;
     while at < text.len() {
         let line = words::before(words::tail(text, at), b'\n');
         let rest = words::tail(text, at + line.len() + 1);
         let size = case_size(rest);
-        io::write_all(1, line);
-        io::write_all(1, b"\n");
-        start(line, &rest[..size]);
+        print::text(streams.out, line)?;
+        print::text(streams.out, b"\n")?;
+        start(streams, line, &rest[..size])?;
         at = at + line.len() + 1 + size;
     }
+    Ok(())
 }
 
 // A list of scripts, if it is one.
-fn run_list(text: &[u8]) {
+fn run_list(streams: Streams, text: &[u8]) -> io::Result<()> {
     if MAX_SCRIPT < text.len() {
-        io::write_all(
-            2,
+        return streams.err.write_all(
             b"panel-script: a list of scripts has at most 1048576 bytes\n",
         );
-        return;
     }
     if !begins_case(words::before(text, b'\n')) {
-        print::bad_line(b"", 1, forms::NO_CASE);
-        return;
+        return print::bad_line(streams, b"", 1, forms::NO_CASE);
     }
-    run_cases(text);
+    run_cases(streams, text)
 }
 
 // What the arguments ask for: a script to run, a list of them, or nothing that there is.
@@ -176,14 +190,22 @@ enum Asked {
     Nothing,
 }
 
-fn read_arguments() -> Asked {
+fn is_cases(argument: Result<usize, FillError>, word: &[u8]) -> bool {
+    match argument {
+        Ok(n) => words::is(words::head(word, n), b"cases"),
+        Err(_) => false,
+    }
+}
+
+fn read_arguments(rt: &impl Env) -> Asked {
     let mut word = [0u8; 16];
-    let n = os::arg(1, &mut word);
-    let count = os::arg_count();
-    if count < 2 {
+    let mut more = [0u8; 1];
+    let first = rt.arg(1, &mut word);
+    let second = rt.arg(2, &mut more);
+    if matches!(first, Err(FillError::NotPresent)) {
         return Asked::Script;
     }
-    if (count < 3) & words::is(&word[..n], b"cases") {
+    if matches!(second, Err(FillError::NotPresent)) & is_cases(first, &word) {
         return Asked::Cases;
     }
     Asked::Nothing
@@ -196,22 +218,26 @@ fn room() -> [u8; 1048577]
     [0; 1048577]
 }
 
-fn run_asked(asked: Asked, text: &[u8]) {
+fn run_asked(streams: Streams, asked: Asked, text: &[u8]) -> io::Result<()> {
     match asked {
-        Asked::Script => start(b"", text),
-        Asked::Cases => run_list(text),
+        Asked::Script => start(streams, b"", text),
+        Asked::Cases => run_list(streams, text),
         Asked::Nothing => {
-            io::write_all(
-                2,
+            streams.err.write_all(
                 b"panel-script: takes no words, or the word `cases` for a list of scripts\n",
-            );
+            )
         }
     }
 }
 
-fn main() {
-    let asked = read_arguments();
+fn main(rt: HostRuntime) -> io::Result<()> {
+    let streams = Streams {
+        out: rt.stdout(),
+        err: rt.stderr(),
+    };
+    let asked = read_arguments(&rt);
     let mut text = room();
-    let n = io::read_full(0, &mut text);
-    run_asked(asked, &text[..n]);
+    let mut stdin = rt.stdin();
+    let n = input::read_full(&mut stdin, &mut text)?;
+    run_asked(streams, asked, &text[..n])
 }

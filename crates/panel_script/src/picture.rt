@@ -2,6 +2,8 @@
 ghost use Rattle.std.specs.Prelude.{◌<◌, ◌≤◌, length};
 
 use crate::print;
+use std::io;
+use std::io::Stdout;
 use views::Memory;
 
 const ROWS: usize = 320;
@@ -57,19 +59,24 @@ fn put_row(out: &mut [u8], number: usize, row: &[u16]) -> usize {
 }
 
 // A row has at most 240 runs, each of five characters or of several numbers.
-fn print_row(number: usize, row: &[u16]) {
+fn print_row(stdout: Stdout, number: usize, row: &[u16]) -> io::Result<()> {
     if is_blank(row) {
-        return;
+        return Ok(());
     }
     let mut out = [0u8; 1300];
     let used = put_row(&mut out, number, row);
-    print::show(&out, used);
+    print::show(stdout, &out, used)
 }
 
-pub(crate) fn print(numbers: &[u16]) {
+pub(crate) fn print(stdout: Stdout, numbers: &[u16]) -> io::Result<()> {
     let mut number = 0;
     while number < ROWS {
-        print_row(number, views::row(Memory::Panel, number, numbers, numbers));
+        print_row(
+            stdout,
+            number,
+            views::row(Memory::Panel, number, numbers, numbers),
+        )?;
         number += 1;
     }
+    Ok(())
 }

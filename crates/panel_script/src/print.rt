@@ -4,16 +4,26 @@ ghost use Rattle.std.specs.Prelude.{◌≤◌};
 use crate::words;
 use lists::Params;
 use status::Status;
+use std::io;
+use std::io::{Print, Stderr, Stdout};
 
-pub(crate) fn text(bytes: &[u8]) {
-    io::write_all(1, bytes);
+// Where a program writes.
+#[derive(Clone, Copy)]
+pub(crate) struct Streams {
+    pub(crate) out: Stdout,
+    pub(crate) err: Stderr,
+}
+
+pub(crate) fn text(stdout: Stdout, bytes: &[u8]) -> io::Result<()> {
+    stdout.write_all(bytes)
 }
 
 // The used part of a buffer.
-pub(crate) fn show(out: &[u8], used: usize) {
+pub(crate) fn show(stdout: Stdout, out: &[u8], used: usize) -> io::Result<()> {
     if used <= out.len() {
-        io::write_all(1, &out[..used]);
+        return text(stdout, &out[..used]);
     }
+    Ok(())
 }
 
 // What a byte of a form stands for: below 10 for a number, in decimal for 0, else in hex with so many digits.
@@ -60,62 +70,70 @@ fn put_form(out: &mut [u8], given: &[u8], numbers: [u64; 8]) -> usize {
 }
 
 // A text in which a 0 stands for the next number in decimal, and a 2, 4 or 8 for it in hex with so many digits.
-pub(crate) fn form(given: &[u8], numbers: [u64; 8]) {
+pub(crate) fn form(stdout: Stdout, given: &[u8], numbers: [u64; 8]) -> io::Result<()> {
     let mut out = [0u8; 200];
     let used = put_form(&mut out, given, numbers);
-    show(&out, used);
+    show(stdout, &out, used)
 }
 
 // Such a text with one number.
-pub(crate) fn one(given: &[u8], n: u64) {
-    form(given, [n, 0, 0, 0, 0, 0, 0, 0]);
+pub(crate) fn one(stdout: Stdout, given: &[u8], n: u64) -> io::Result<()> {
+    form(stdout, given, [n, 0, 0, 0, 0, 0, 0, 0])
 }
 
 // A digest after a space, and the line's end.
-pub(crate) fn digest(numbers: &[u16]) {
+pub(crate) fn digest(stdout: Stdout, numbers: &[u16]) -> io::Result<()> {
     let halves = digests::digest(numbers);
-    form(b" 88\n", [halves.first, halves.second, 0, 0, 0, 0, 0, 0]);
+    form(
+        stdout,
+        b" 88\n",
+        [halves.first, halves.second, 0, 0, 0, 0, 0, 0],
+    )
 }
 
 // A list of parameters, and the line's end.
-pub(crate) fn params(p: Params) {
+pub(crate) fn params(stdout: Stdout, p: Params) -> io::Result<()> {
     let mut out = [0u8; 100];
     let used = report::put_params(&mut out, 0, p);
-    show(&out, used);
-    text(b"\n");
+    show(stdout, &out, used)?;
+    text(stdout, b"\n")
 }
 
 // A refusal, if it is one.
-pub(crate) fn refusal(status: Status) {
+pub(crate) fn refusal(stdout: Stdout, status: Status) -> io::Result<()> {
     let n = status::number(status);
     if n != 0 {
-        one(b"refused 0\n", n);
+        return one(stdout, b"refused 0\n", n);
     }
+    Ok(())
 }
 
 // The line that begins a case of a list, or nothing.
-fn tell_head(head: &[u8]) {
+fn tell_head(stderr: Stderr, head: &[u8]) -> io::Result<()> {
     if head.len() != 0 {
-        io::write_all(2, words::head(head, 100));
-        io::write_all(2, b": ");
+        stderr.write_all(words::head(head, 100))?;
+        stderr.write_all(b": ")?;
     }
+    Ok(())
 }
 
-fn tell_reason(wrong: usize) {
+fn tell_reason(stderr: Stderr, wrong: usize) -> io::Result<()> {
     if wrong < 9 {
         let reasons =
             b"                unknown call.   unknown field.  too few words.  too many words. bad word.       bad number.     too long.       no case.";
-        io::write_all(2, words::before(words::tail(reasons, 16 * wrong), b'.'));
+        stderr.write_all(words::before(words::tail(reasons, 16 * wrong), b'.'))?;
     }
+    Ok(())
 }
 
 // A bad line's number, and on standard error the reason too, after the line that begins its case.
-pub(crate) fn bad_line(head: &[u8], n: usize, wrong: usize) {
-    one(b"bad line 0\n", n as u64);
-    tell_head(head);
-    io::write_all(2, b"bad line ");
-    io::print_decimal(2, n as u64);
-    io::write_all(2, b": ");
-    tell_reason(wrong);
-    io::write_all(2, b"\n");
+pub(crate) fn bad_line(streams: Streams, head: &[u8], n: usize, wrong: usize) -> io::Result<()> {
+    let stderr = streams.err;
+    one(streams.out, b"bad line 0\n", n as u64)?;
+    tell_head(stderr, head)?;
+    stderr.write_all(b"bad line ")?;
+    stderr.print(n)?;
+    stderr.write_all(b": ")?;
+    tell_reason(stderr, wrong)?;
+    stderr.write_all(b"\n")
 }

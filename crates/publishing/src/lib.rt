@@ -23,7 +23,7 @@ pub struct Flags {
     pub duty: u16,
 }
 
-#[derive(Drop)]
+#[derive(Clone, Copy)]
 pub struct Published {
     pub panel: St7789p3,
     pub span: Span,

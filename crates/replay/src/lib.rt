@@ -15,7 +15,7 @@ use st7789::{PanelMemory, St7789p3, Transferred};
 use status::{Status, accepted};
 
 // The panel after the log, or a fresh one where the log is refused, and then why and where.
-#[derive(Drop)]
+#[derive(Clone, Copy)]
 pub struct Replayed {
     pub panel: St7789p3,
     pub offset: usize,

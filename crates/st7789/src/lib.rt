@@ -28,7 +28,7 @@ pub struct Counts {
 }
 
 // How many trace records and warnings are used, and which record is current.
-#[derive(Drop)]
+#[derive(Clone, Copy)]
 pub struct Logs {
     pub traced: u8,
     pub warned: u8,
@@ -36,7 +36,7 @@ pub struct Logs {
 }
 
 // Everything but the lists.
-#[derive(Drop)]
+#[derive(Clone, Copy)]
 pub struct Controller {
     pub cfg: PanelConfig,
     pub power: Power,
@@ -47,7 +47,7 @@ pub struct Controller {
 }
 
 // The lists lie flat, so that a store changes them in place.
-#[derive(Drop)]
+#[derive(Clone, Copy)]
 pub struct St7789p3 {
     pub controller: Controller,
     pub stored: [Stored; 12],
@@ -63,14 +63,14 @@ pub enum PanelMemory {
 }
 
 // What a data segment leaves of the controller, and the totals of its pixels.
-#[derive(Drop)]
+#[derive(Clone, Copy)]
 struct Drawn {
     controller: Controller,
     totals: Totals,
 }
 
 // What a transfer answers: the panel, how many of its own pixels went which way, and whether it was refused.
-#[derive(Drop)]
+#[derive(Clone, Copy)]
 pub struct Transferred {
     pub panel: St7789p3,
     pub totals: Totals,
@@ -78,13 +78,13 @@ pub struct Transferred {
 }
 
 // What is answered where a panel is made or reset.
-#[derive(Drop)]
+#[derive(Clone, Copy)]
 pub struct Answer {
     pub panel: St7789p3,
     pub status: Status,
 }
 
-#[derive(Drop)]
+#[derive(Clone, Copy)]
 pub struct HandedOver {
     pub panel: St7789p3,
     pub warnings: [Warning; PLACES],

@@ -95,6 +95,7 @@ fn command_after_swreset(strict: bool, times: Times, t: u64) -> bool
 }
 
 // What a command of this kind breaks at time t, under the strict profile or the plain one, with the formats read or not.
+#[tactic(auto, unfolding(crate::specs::Lint::broken_by))]
 pub fn lint(strict: bool, formats: bool, times: Times, colmod: u8, kind: Kind, t: u64) -> Broken
     ensures answer { result ≡ broken_by strict formats times colmod kind t }
 {
@@ -186,6 +187,7 @@ impl Times {
     }
 
     // The times after a command of this kind at time t.
+    #[tactic(auto, using(codes::proofs::Numbering::number_is, codes::proofs::Numbering::idle), unfolding(crate::specs::Lint::times_after))]
     pub fn after(self, kind: Kind, t: u64) -> Times
         ensures answer { result ≡ times_after self kind t }
     {

@@ -1,4 +1,3 @@
-pub mod Calls
 pub mod Steps
 pub mod Judging
 pub mod Fronts

@@ -16,8 +16,10 @@ use Rattle.st7789.specs.declared.Answer.{Answer}
 use Rattle.st7789.specs.declared.Controller.{Controller}
 use Rattle.st7789.specs.declared.St7789p3.{St7789p3}
 use Rattle.st7789.specs.contracts.St7789p3.reset as reset
+use Rattle.st7789.proofs.St7789p3.reset.Reads as reset-reads
 use Rattle.views.specs.declared.Seen.{Seen}
-use Rattle.views.proofs.pixel as pixel
+use Rattle.views.specs.contracts.pixel as pixel
+use Rattle.views.proofs.pixel.Reads as pixel-reads
 use Rattle.laws.specs.Cases.{state_limits, count_limits, all_given}
 use Rattle.no_room.specs.Cases.{cases}
 use Rattle.no_room.proofs.Model.{model}
@@ -30,12 +32,12 @@ publish-and-view-given = refl
 pub pixel-by-memory :
     (κs : Lfts (pixel.signature).lifetimes) (k : Controller) (view : FrameView) (x y : ℕ) (memory : Bor (List ℕ)) (r : Seen)
     (e : AtExit pixel.ended κs) →
-    pixel.Reads.Learnt κs (k, (view, (x, (y, (memory, tt))))) r e → number r.status ≡ memory_refusal (length memory.now)
+    pixel-reads.Learnt κs (k, (view, (x, (y, (memory, tt))))) r e → number r.status ≡ memory_refusal (length memory.now)
 pixel-by-memory κs k view x y memory r e promised = promised.0
 
 -- Whatever the panel and the domain.
 pub reset-by-memory :
     (κs : Lfts (reset.signature).lifetimes) (s : St7789p3) (domain : BoardDomain) (memory : Bor (List ℕ)) (r : Answer)
     (e : AtExit reset.ended κs) →
-    reset.Reads.Learnt κs (s, (domain, (memory, tt))) r e → number r.status ≡ memory_refusal (length memory.now)
+    reset-reads.Learnt κs (s, (domain, (memory, tt))) r e → number r.status ≡ memory_refusal (length memory.now)
 reset-by-memory κs s domain memory r e promised = promised.0

@@ -9,15 +9,23 @@ use Rattle.board.specs.declared.PanelConfig.{PanelConfig}
 use Rattle.st7789.specs.declared.Answer.{Answer}
 use Rattle.st7789.specs.declared.Controller.{Controller}
 use Rattle.st7789.specs.contracts.St7789p3.new as new
+use Rattle.st7789.proofs.St7789p3.new.Reads as new-reads
 use Rattle.st7789.specs.contracts.St7789p3.reset as reset
+use Rattle.st7789.proofs.St7789p3.reset.Reads as reset-reads
 use Rattle.st7789.specs.contracts.Controller.set_powered as set-powered
+use Rattle.st7789.proofs.Controller.set_powered.Reads as set-powered-reads
 use Rattle.st7789.specs.contracts.Controller.set_invon_shows_ram as set-invon-shows-ram
+use Rattle.st7789.proofs.Controller.set_invon_shows_ram.Reads as set-invon-shows-ram-reads
 use Rattle.st7789.specs.contracts.Controller.set_brightness as set-brightness
+use Rattle.st7789.proofs.Controller.set_brightness.Reads as set-brightness-reads
 use Rattle.st7789.specs.contracts.Controller.mark_all_dirty as mark-all-dirty
+use Rattle.st7789.proofs.Controller.mark_all_dirty.Reads as mark-all-dirty-reads
 use Rattle.light.specs.declared.FrameView.{FrameView}
 use Rattle.views.specs.declared.Seen.{Seen}
-use Rattle.views.proofs.pixel as pixel
-use Rattle.views.proofs.frame as frame
+use Rattle.views.specs.contracts.pixel as pixel
+use Rattle.views.proofs.pixel.Reads as pixel-reads
+use Rattle.views.specs.contracts.frame as frame
+use Rattle.views.proofs.frame.Reads as frame-reads
 use Rattle.hosts.specs.Calls as calls
 use Rattle.hosts.specs.Calls.{Host, Machine, on_controller}
 use Rattle.no_room.specs.Panels.{Call, Panel}
@@ -51,34 +59,34 @@ pub record Functions : Type 0 where
 pub record KeepAll (f : Functions) : Type 0 where
   pub new :
       (cfg : PanelConfig) (memory : List ℕ) →
-      new.Reads.Learnt ([], tt) (cfg, (lent memory, tt)) (f.new cfg memory).answer
+      new-reads.Learnt ([], tt) (cfg, (lent memory, tt)) (f.new cfg memory).answer
       (at_exit new.ended ([], tt) (cfg, (lent memory, tt)) (tt, ((f.new cfg memory).memory, tt)))
   pub transfer : KeepsTransfer f.transfer
   pub publish : KeepsPublish f.publish
   pub reset :
       (p : Panel) (d : BoardDomain) →
-      reset.Reads.Learnt ([], tt) (p.state, (d, (lent p.memory, tt))) (f.reset p d).answer
+      reset-reads.Learnt ([], tt) (p.state, (d, (lent p.memory, tt))) (f.reset p d).answer
       (at_exit reset.ended ([], tt) (p.state, (d, (lent p.memory, tt))) (tt, (tt, ((f.reset p d).memory, tt))))
   pub set_powered :
       (k : Controller) (on : Bool) →
-      set-powered.Reads.Learnt tt (k, (on, tt)) (f.set_powered k on) (at_exit set-powered.ended tt (k, (on, tt)) (tt, (tt, tt)))
+      set-powered-reads.Learnt tt (k, (on, tt)) (f.set_powered k on) (at_exit set-powered.ended tt (k, (on, tt)) (tt, (tt, tt)))
   pub set_invon_shows_ram :
       (k : Controller) (on : Bool) →
-      set-invon-shows-ram.Reads.Learnt tt (k, (on, tt)) (f.set_invon_shows_ram k on)
+      set-invon-shows-ram-reads.Learnt tt (k, (on, tt)) (f.set_invon_shows_ram k on)
       (at_exit set-invon-shows-ram.ended tt (k, (on, tt)) (tt, (tt, tt)))
   pub set_brightness :
       (k : Controller) (level scale duty : ℕ) →
-      set-brightness.Reads.Learnt tt (k, (level, (scale, (duty, tt)))) (f.set_brightness k level scale duty)
+      set-brightness-reads.Learnt tt (k, (level, (scale, (duty, tt)))) (f.set_brightness k level scale duty)
       (at_exit set-brightness.ended tt (k, (level, (scale, (duty, tt)))) (tt, (tt, (tt, (tt, tt)))))
   pub mark_all_dirty :
-      (k : Controller) → mark-all-dirty.Reads.Learnt tt (k, tt) (f.mark_all_dirty k) (at_exit mark-all-dirty.ended tt (k, tt) (tt, tt))
+      (k : Controller) → mark-all-dirty-reads.Learnt tt (k, tt) (f.mark_all_dirty k) (at_exit mark-all-dirty.ended tt (k, tt) (tt, tt))
   pub pixel :
       (k : Controller) (v : FrameView) (x y : ℕ) (memory : List ℕ) →
-      pixel.Reads.Learnt ([], tt) (k, (v, (x, (y, (lent memory, tt))))) (f.pixel k v x y memory)
+      pixel-reads.Learnt ([], tt) (k, (v, (x, (y, (lent memory, tt))))) (f.pixel k v x y memory)
       (at_exit pixel.ended ([], tt) (k, (v, (x, (y, (lent memory, tt))))) (tt, (tt, (tt, (tt, (tt, tt))))))
   pub frame :
       (k : Controller) (v : FrameView) (memory buffer : List ℕ) →
-      frame.Reads.Learnt ([], ([], tt)) (k, (v, (lent memory, (lent buffer, tt)))) (f.frame k v memory buffer).status
+      frame-reads.Learnt ([], ([], tt)) (k, (v, (lent memory, (lent buffer, tt)))) (f.frame k v memory buffer).status
       (at_exit frame.ended ([], ([], tt)) (k, (v, (lent memory, (lent buffer, tt)))) (tt, (tt, (tt, ((f.frame k v memory buffer).buffer, tt)))))
 
 -- A host's panel with its memory.

@@ -7,9 +7,12 @@ use denote.Triple.Clauses.{at_exit}
 use Rattle.st7789.specs.declared.Transferred.{Transferred}
 use Rattle.st7789.specs.declared.PanelMemory.TheVariants.{Lent}
 use Rattle.st7789.specs.contracts.St7789p3.transfer as transfer
+use Rattle.st7789.proofs.St7789p3.transfer.Reads as transfer-reads
 use Rattle.publishing.specs.declared.Published.{Published}
-use Rattle.publishing.proofs.publish as publish
-use Rattle.light.proofs.dim as dim
+use Rattle.publishing.specs.contracts.publish as publish
+use Rattle.publishing.proofs.publish.Reads as publish-reads
+use Rattle.light.specs.contracts.dim as dim
+use Rattle.light.proofs.dim.Reads as dim-reads
 use Rattle.no_room.specs.Panels.{Call, Panel}
 
 -- Lent numbers, wherever they stand.
@@ -33,7 +36,7 @@ transfer_args p c = (p.state, (c.time, (c.dc, (lent c.bytes, (c.release, (Lent, 
 abbrev pub KeepsTransfer : Transfer → Type 0
 KeepsTransfer f =
     (p : Panel) (c : Call) →
-    transfer.Reads.Learnt ([], ([], tt)) (transfer_args p c) (f p c).answer
+    transfer-reads.Learnt ([], ([], tt)) (transfer_args p c) (f p c).answer
     (at_exit transfer.ended ([], ([], tt)) (transfer_args p c) (tt, (tt, (tt, (tt, (tt, (tt, ((f p c).memory, tt))))))))
 
 -- The panel that it leaves.
@@ -57,7 +60,7 @@ publish_args p frame = (p.state, (lent p.memory, (lent frame, tt)))
 abbrev pub KeepsPublish : Publish → Type 0
 KeepsPublish f =
     (p : Panel) (frame : List ℕ) →
-    publish.Reads.Learnt ([], ([], tt)) (publish_args p frame) (f p frame).answer
+    publish-reads.Learnt ([], ([], tt)) (publish_args p frame) (f p frame).answer
     (at_exit publish.ended ([], ([], tt)) (publish_args p frame) (tt, (tt, ((f p frame).frame, tt))))
 
 -- Anything of the type of dimming: a pixel, a level and a scale give a pixel.
@@ -68,5 +71,5 @@ Dim = ℕ → ℕ → ℕ → ℕ
 abbrev pub KeepsDim : Dim → Type 0
 KeepsDim f =
     (pixel level scale : ℕ) →
-    dim.Reads.Learnt tt (pixel, (level, (scale, tt))) (f pixel level scale)
+    dim-reads.Learnt tt (pixel, (level, (scale, tt))) (f pixel level scale)
     (at_exit dim.ended tt (pixel, (level, (scale, tt))) (tt, (tt, (tt, tt))))

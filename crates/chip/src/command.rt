@@ -15,6 +15,7 @@ use pixels::Walk;
 use timing::Times;
 
 impl Chip {
+    #[tactic(auto, unfolding(crate::specs::Begin::fresh_chip))]
     pub fn fresh() -> Chip
         ensures answer { result ≡ fresh_chip }
     {
@@ -59,6 +60,7 @@ impl Chip {
     }
 
     // A command begins at time t.
+    #[tactic(auto, unfolding(crate::specs::Begin::chip_begun))]
     pub fn begin(self, command: Command, t: u64) -> Chip
         ensures answer { result ≡ chip_begun command t self }
     {
@@ -91,6 +93,7 @@ impl Chip {
         Chip { decoder, ..self }
     }
 
+    #[tactic(auto, unfolding(crate::specs::Apply::applied_if_due))]
     fn apply(self, command: Command) -> Chip
         ensures { result ≡ applied_if_due command self }
     {
@@ -117,6 +120,7 @@ impl Chip {
     }
 
     // Data for a command.
+    #[tactic(auto, unfolding(crate::specs::Apply::chip_taken))]
     pub fn take(self, command: Command, bytes: &[u8]) -> Chip
         ensures answer { result ≡ chip_taken command bytes.now self }
     {
@@ -125,6 +129,7 @@ impl Chip {
     }
 
     // CS goes high: nothing is in force, and the pointer stays.
+    #[tactic(auto, unfolding(crate::specs::Begin::chip_released))]
     pub fn release(self) -> Chip
         ensures answer { result ≡ chip_released self }
     {

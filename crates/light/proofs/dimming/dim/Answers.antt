@@ -1,0 +1,9 @@
+use Rattle.light.proofs.Channels.{dimmed-scaled}
+use Rattle.light.proofs.dimming.dim.Goals as goal
+
+pub returns : goal.returns
+returns c = record {
+  answer =
+      simp (c.wide16-all.ensures.0, c.scale_value-red.ensures.0, c.scale_value-green.ensures.0, c.scale_value-blue.ensures.0)
+      (dimmed-scaled _ _ _);
+}

@@ -1,0 +1,12 @@
+use Rattle.std.proofs.Common.{◌-◌}
+use Rattle.formats.specs.declared.Format.TheVariants.{HighFirst}
+use Rattle.engine.specs.Whole.{pixels_in}
+use Rattle.engine.specs.Strides.{left_from}
+use Rattle.engine.proofs.Laying.{Laying}
+use Rattle.engine.proofs.lay.lay_left.Given as goal
+
+abbrev pub invariant-loop-k : goal.invariant-loop-k
+invariant-loop-k l = Laying (left_from l.first) l.initial.memory (pixels_in HighFirst l.bytes) l.j l.n l.memory l.k
+
+abbrev pub decreases-loop-k : goal.decreases-loop-k
+decreases-loop-k l = l.n - l.k

@@ -1,0 +1,10 @@
+use Rattle.std.proofs.Common.{◌-◌}
+use Rattle.engine.specs.Strides.{on_from}
+use Rattle.engine.proofs.Laying.{Laying}
+use Rattle.engine.proofs.strided.lay_line.Given as goal
+
+abbrev pub invariant-loop-k : goal.invariant-loop-k
+invariant-loop-k l = Laying (on_from l.madctl l.first) l.initial.memory (l.line) l.j l.n l.memory l.k
+
+abbrev pub decreases-loop-k : goal.decreases-loop-k
+decreases-loop-k l = l.n - l.k

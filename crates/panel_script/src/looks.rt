@@ -13,7 +13,7 @@ use views::{FrameView, Memory};
 
 fn print_span(stdout: Stdout, span: Span) -> io::Result<()> {
     match span {
-        Span::Nothing => return print::text(stdout, b"publish none"),
+        Span::Nothing => print::text(stdout, b"publish none"),
         Span::Rows(first, last) => {
             print::form(
                 stdout,
@@ -31,7 +31,7 @@ pub(crate) fn print_published(
     f: Flags,
 ) -> io::Result<()> {
     if !status::accepted(status) {
-        print::refusal(stdout, status);
+        return print::refusal(stdout, status);
     }
     print_span(stdout, span)?;
     print::form(
@@ -54,7 +54,7 @@ pub(crate) fn print_published(
 fn print_named(stdout: Stdout, line: &[u8]) -> io::Result<()> {
     print::text(stdout, words::word(line, 0))?;
     print::text(stdout, b" ")?;
-    return print::text(stdout, words::word(line, 1))
+    print::text(stdout, words::word(line, 1))
 }
 
 pub(crate) fn view_of(n: u64) -> FrameView {
@@ -73,7 +73,7 @@ fn print_view(
     numbers: &[u16],
 ) -> io::Result<()> {
     if !status::accepted(status) {
-        print::refusal(stdout, status);
+        return print::refusal(stdout, status);
     }
     print_named(stdout, line)?;
     if call == forms::VIEW {

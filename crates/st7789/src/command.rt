@@ -113,6 +113,7 @@ impl Controller {
     }
 
     // Command c begins at time t, after the lint.
+    #[tactic(auto, unfolding(chip::specs::Begin::chip_begun))]
     pub(crate) fn begin(mut self, codes: &[u16; 256], c: u8, t: u64) -> Controller
         requires { (codes.now ≡ table) × ((self.counts.commands + 1 < 2 ^ 64) × (self.counts.ramwr_count + 1 < 2 ^ 64)) }
         ensures { result ≡ controller_begun c t self }
@@ -168,6 +169,7 @@ impl Controller {
     }
 
     // CS goes high, if asked: nothing is in force, no record is current, and the pointer stays.
+    #[tactic(auto, unfolding(crate::specs::Command::controller_released))]
     pub(crate) fn release(mut self, cs_release: bool) -> Controller
         ensures { result ≡ cond cs_release (controller_released self) self }
     {

@@ -13,6 +13,7 @@ use status::accepted;
 
 impl Controller {
     // Unpowered, asleep, display and inversion off.
+    #[tactic(auto, unfolding(crate::specs::Entries::fresh_controller))]
     pub fn fresh(cfg: PanelConfig) -> Controller
         ensures answer { result ≡ fresh_controller cfg }
     {
@@ -45,6 +46,7 @@ impl Controller {
 
 impl St7789p3 {
     // A controller with its lists empty.
+    #[tactic(auto, unfolding(crate::specs::Entries::empty_lists))]
     fn empty(controller: Controller) -> St7789p3
         ensures { result ≡ empty_lists controller }
     {
@@ -89,6 +91,7 @@ impl St7789p3 {
     }
 
     // A panel over lent memory, which is cleared. Refused, it is fresh all the same and the memory stays.
+    #[tactic(auto, unfolding(crate::specs::Entries::new_memory))]
     pub fn new(cfg: PanelConfig, memory: &mut [u16]) -> Answer
         ensures refusal { number result.status ≡ memory_refusal (length memory.old) }
         ensures answer { result.panel ≡ fresh_panel cfg }
@@ -104,6 +107,7 @@ impl St7789p3 {
     }
 
     // Resets a board domain. Only the board rail resets the panel, clearing memory with it; the configuration stays.
+    #[tactic(auto, unfolding(crate::specs::Entries::reset_state, crate::specs::Entries::reset_memory))]
     pub fn reset(self, domain: BoardDomain, memory: &mut [u16]) -> Answer
         ensures refusal { number result.status ≡ memory_refusal (length memory.old) }
         ensures answer { result.panel ≡ reset_state domain (length memory.old) self }

@@ -29,7 +29,7 @@ use Rattle.views.proofs.frame.Reads as frame-reads
 use Rattle.hosts.specs.Calls as calls
 use Rattle.hosts.specs.Calls.{Host, Machine, on_controller}
 use Rattle.no_room.specs.Panels.{Call, Panel}
-use Rattle.no_room.specs.Kept.{lent, Transfer, KeepsTransfer, left_by, Shown, Publish, KeepsPublish}
+use Rattle.no_room.specs.Kept.{lent, lent_to_write, Transfer, KeepsTransfer, left_by, Shown, Publish, KeepsPublish}
 
 -- What making a panel or resetting it leaves: the answer, and memory.
 pub record Done : Type 0 where
@@ -59,14 +59,14 @@ pub record Functions : Type 0 where
 pub record KeepAll (f : Functions) : Type 0 where
   pub new :
       (cfg : PanelConfig) (memory : List ℕ) →
-      new-reads.Learnt ([], tt) (cfg, (lent memory, tt)) (f.new cfg memory).answer
-      (at_exit new.ended ([], tt) (cfg, (lent memory, tt)) (tt, ((f.new cfg memory).memory, tt)))
+      new-reads.Learnt ([], tt) (cfg, (lent_to_write memory, tt)) (f.new cfg memory).answer
+      (at_exit new.ended ([], tt) (cfg, (lent_to_write memory, tt)) (tt, ((f.new cfg memory).memory, tt)))
   pub transfer : KeepsTransfer f.transfer
   pub publish : KeepsPublish f.publish
   pub reset :
       (p : Panel) (d : BoardDomain) →
-      reset-reads.Learnt ([], tt) (p.state, (d, (lent p.memory, tt))) (f.reset p d).answer
-      (at_exit reset.ended ([], tt) (p.state, (d, (lent p.memory, tt))) (tt, (tt, ((f.reset p d).memory, tt))))
+      reset-reads.Learnt ([], tt) (p.state, (d, (lent_to_write p.memory, tt))) (f.reset p d).answer
+      (at_exit reset.ended ([], tt) (p.state, (d, (lent_to_write p.memory, tt))) (tt, (tt, ((f.reset p d).memory, tt))))
   pub set_powered :
       (k : Controller) (on : Bool) →
       set-powered-reads.Learnt tt (k, (on, tt)) (f.set_powered k on) (at_exit set-powered.ended tt (k, (on, tt)) (tt, (tt, tt)))
@@ -86,8 +86,8 @@ pub record KeepAll (f : Functions) : Type 0 where
       (at_exit pixel.ended ([], tt) (k, (v, (x, (y, (lent memory, tt))))) (tt, (tt, (tt, (tt, (tt, tt))))))
   pub frame :
       (k : Controller) (v : FrameView) (memory buffer : List ℕ) →
-      frame-reads.Learnt ([], ([], tt)) (k, (v, (lent memory, (lent buffer, tt)))) (f.frame k v memory buffer).status
-      (at_exit frame.ended ([], ([], tt)) (k, (v, (lent memory, (lent buffer, tt)))) (tt, (tt, (tt, ((f.frame k v memory buffer).buffer, tt)))))
+      frame-reads.Learnt ([], ([], tt)) (k, (v, (lent memory, (lent_to_write buffer, tt)))) (f.frame k v memory buffer).status
+      (at_exit frame.ended ([], ([], tt)) (k, (v, (lent memory, (lent_to_write buffer, tt)))) (tt, (tt, (tt, ((f.frame k v memory buffer).buffer, tt)))))
 
 -- A host's panel with its memory.
 abbrev pub panel_of : Host → Panel

@@ -1,7 +1,7 @@
 -- Rules: anything of the type of a transfer, of publishing or of dimming, and what it is for it to keep the promise. 01's "Four impostors
 -- are tried." is said of the first two, and its worked examples of a transfer and of dimming.
 use Rattle.std.specs.Prelude.{ℕ, List, []}
-use Rattle.std.specs.Borrow.{Bor}
+use Rattle.std.specs.Borrow.{Bor, MutBor}
 use denote.Triple.Entry.{Args}
 use denote.Triple.Clauses.{at_exit}
 use Rattle.st7789.specs.declared.Transferred.{Transferred}
@@ -15,9 +15,13 @@ use Rattle.light.specs.contracts.dim as dim
 use Rattle.light.proofs.dim.Reads as dim-reads
 use Rattle.no_room.specs.Panels.{Call, Panel}
 
--- Lent numbers, wherever they stand.
+-- Lent numbers, wherever they stand: to be read,
 abbrev pub lent : List ℕ → Bor (List ℕ)
 lent numbers = record { ref_ptr = (0, 0); now = numbers }
+
+-- and to be written.
+abbrev pub lent_to_write : List ℕ → MutBor (List ℕ)
+lent_to_write numbers = record { ref_ptr = (0, 0); ghost_name = 0; now = numbers }
 
 -- What a transfer leaves: the answer, and memory.
 pub record Sent : Type 0 where
@@ -30,7 +34,7 @@ Transfer = Panel → Call → Sent
 
 -- A panel and a call as the arguments of `transfer`, panel memory lent.
 abbrev transfer_args : Panel → Call → Args transfer.signature ([], ([], tt))
-transfer_args p c = (p.state, (c.time, (c.dc, (lent c.bytes, (c.release, (Lent, (lent p.memory, tt)))))))
+transfer_args p c = (p.state, (c.time, (c.dc, (lent c.bytes, (c.release, (Lent, (lent_to_write p.memory, tt)))))))
 
 -- It keeps the promise of `transfer`, which is the contract.
 abbrev pub KeepsTransfer : Transfer → Type 0
@@ -54,7 +58,7 @@ Publish = Panel → List ℕ → Shown
 
 -- A panel and a frame as the arguments of `publish`.
 abbrev publish_args : Panel → List ℕ → Args publish.signature ([], ([], tt))
-publish_args p frame = (p.state, (lent p.memory, (lent frame, tt)))
+publish_args p frame = (p.state, (lent p.memory, (lent_to_write frame, tt)))
 
 -- It keeps the promise of `publish`, which is the contract.
 abbrev pub KeepsPublish : Publish → Type 0

@@ -73,6 +73,7 @@ fn size(rest: &[u8]) -> usize
 }
 
 // The refusal of a log, and for BAD_LOG the offset of its first bad record.
+#[tactic(auto, unfolding(crate::specs::Log::log_refusal, crate::specs::Log::bad_offset))]
 pub fn check(log: &[u8]) -> Checked
     ensures refusal { number result.status ≡ log_refusal log.now }
     ensures answer { result.offset ≡ bad_offset log.now }

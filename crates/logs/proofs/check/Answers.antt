@@ -1,9 +1,6 @@
 use Rattle.std.proofs.Common.{arith}
-use Rattle.logs.proofs.Checking.{long-refused, checking-last, checking-bad, checking-next}
+use Rattle.logs.proofs.Checking.{checking-last, checking-bad, checking-next}
 use Rattle.logs.proofs.check.Goals as goal
-
-pub returns-then-log-gt-MAX_LOG : goal.returns-then-log-gt-MAX_LOG
-returns-then-log-gt-MAX_LOG c = let r = long-refused c.args.log.now (omega arith) in record { refusal = r.0; answer = r.1 }
 
 pub returns-then-rest-taken : goal.returns-then-rest-taken
 returns-then-rest-taken c =

@@ -9,7 +9,6 @@ use Rattle.st7789.specs.Data.{no_record, record_data}
 use Rattle.st7789.specs.Parts.{with_controller}
 use Rattle.st7789.specs.Places.{current_place, cells_for, judged_for}
 use Rattle.st7789.specs.Refusals.{transfer_refusal}
-use Rattle.st7789.specs.Room.{Room}
 use Rattle.st7789.specs.declared.PanelMemory.{PanelMemory}
 use Rattle.st7789.specs.declared.St7789p3.{St7789p3}
 use Rattle.st7789.proofs.Tests.{scan-on, refused, held-here, put-here}

@@ -263,7 +263,6 @@ const CODES: [u16; 256] = [
 ];
 
 // The table to decode by. A constant is laid out anew wherever it is named, so a segment asks for it once.
-#[tactic(auto, unfolding(crate::specs::Table::table, crate::specs::Codes::kind_of, crate::specs::Codes::need_of))]
 pub fn table() -> [u16; 256]
     ensures answer { result ≡ table }
 {

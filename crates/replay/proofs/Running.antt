@@ -1,7 +1,6 @@
 -- The loop over the records of a log: the transfers that are left lead to where all of them lead.
 use Prim.Native.Nat.{ℕ, ◌≤◌, ◌<◌}
 use mathlib.Core.Path.{◌≡◌, sym, ap, ◌∙◌}
-use mathlib.Core.Bool.{true}
 use mathlib.Core.List.{List, foldl}
 use lib.ListN.{length, drop}
 use Rattle.logs.specs.Log.{segments, head_at}

@@ -8,7 +8,6 @@ use Rattle.status.specs.Tests.{memory_row, view_row}
 use Rattle.board.specs.Board.{switched_to}
 use Rattle.st7789.specs.Entries.{new_memory}
 use Rattle.publishing.specs.Publish.{published_span, published_flags}
-use Rattle.hosts.specs.Calls as calls
 use Rattle.hosts.specs.Calls.{Accepted}
 use Rattle.hosts.specs.Hosts.{Makes, done, same, sends, rest, part, between, last_published, TwoHosts}
 use Rattle.no_room.specs.Functions.{KeepAll}

@@ -4,7 +4,7 @@ use mathlib.Core.Path.{◌≡◌, refl}
 use mathlib.Core.Bool.{true}
 use mathlib.Core.List.{List}
 use contract.Lifetimes.{Lfts}
-use denote.Ref.{Bor}
+use Rattle.std.specs.Borrow.{Bor, MutBor}
 use denote.Triple.Clauses.{AtExit}
 use lib.ListN.{length}
 use Rattle.status.specs.Numbers.{number}
@@ -37,7 +37,7 @@ pixel-by-memory κs k view x y memory r e promised = promised.0
 
 -- Whatever the panel and the domain.
 pub reset-by-memory :
-    (κs : Lfts (reset.signature).lifetimes) (s : St7789p3) (domain : BoardDomain) (memory : Bor (List ℕ)) (r : Answer)
+    (κs : Lfts (reset.signature).lifetimes) (s : St7789p3) (domain : BoardDomain) (memory : MutBor (List ℕ)) (r : Answer)
     (e : AtExit reset.ended κs) →
     reset-reads.Learnt κs (s, (domain, (memory, tt))) r e → number r.status ≡ memory_refusal (length memory.now)
 reset-by-memory κs s domain memory r e promised = promised.0

@@ -10,6 +10,7 @@ use light::FrameView;
 use st7789::Controller;
 use status::{PANEL_PIXELS, Status};
 
+#[tactic(auto, unfolding(crate::specs::Views::pixel_seen))]
 pub fn pixel(controller: Controller, view: FrameView, x: u16, y: u16, memory: &[u16]) -> Seen
     ensures refusal { number result.status ≡ memory_refusal (length memory.now) }
     ensures answer { result.pixel ≡ pixel_seen view controller x y memory.now }

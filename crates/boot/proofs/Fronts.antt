@@ -7,7 +7,7 @@ use native.Mathlib.Omega.{arith}
 use lib.ListN.{length, take}
 use Rattle.lists.specs.declared.TraceRecord.{TraceRecord}
 use Rattle.lists.specs.Fixed.{places}
-use Rattle.lists.proofs.Fronts.{take-most}
+use Rattle.std.proofs.lemmas.List.{take_all, take_min}
 use Rattle.sequence.specs.Sequence.{boot_sequence}
 use Rattle.boot.specs.Boot.{fits, answered, compared_from, compared}
 use Rattle.sequence.specs.declared.BootStep.{BootStep}
@@ -23,16 +23,18 @@ past-steps k (s ∷ steps) (r ∷ records) = ap (λ c. cond (fits s r) c (answer
 pub past-23 : (records : List TraceRecord) → compared (take 23 records) ≡ compared records
 past-23 records = past-steps 1 boot_sequence records
 
--- The loop ends with the first k records compared, as many as there are of 23.
-pub looked : (records : List TraceRecord) (k : ℕ) → k ≤ min (length records) 23 → min (length records) 23 ≤ k → compared (take k records) ≡ compared records
-looked records k h l =
-    let m : k ≡ min 23 (length records) = omega arith in
-    ap (λ i. compared (take i records)) m ∙ ap compared (take-most 23 records) ∙ past-23 records
+-- The loop ends with the first 23 of the records compared, or with all where there are fewer.
+pub looked :
+    (records : List TraceRecord) (n i : ℕ) → n ≡ min (length records) 23 → length (take n records) ≤ i →
+    compared (take i (take n records)) ≡ compared records
+looked records n i e h =
+    let m : n ≡ min 23 (length records) = omega arith in
+    ap compared (take_all i (take n records) h) ∙ ap (λ i. compared (take i records)) m ∙ ap compared (take_min 23 records) ∙ past-23 records
 
 -- A count above the places is all of them.
-pub used-front :
-    (records : List TraceRecord) (used : ℕ) {n : ℕ} → length records ≡ places → n ≡ min used places →
+pub used_front :
+    (records : List TraceRecord) (used n : ℕ) → length records ≡ places → n ≡ min used places →
     compared (take n records) ≡ compared (take used records)
-used-front records used {n} long e =
+used_front records used n long e =
     let m : n ≡ min used (length records) = omega arith in
-    ap (λ i. compared (take i records)) m ∙ ap compared (take-most used records)
+    ap (λ i. compared (take i records)) m ∙ ap compared (take_min used records)

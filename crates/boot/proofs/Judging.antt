@@ -5,8 +5,9 @@ use mathlib.Core.Bool.{Bool, true, false, cond}
 use mathlib.Core.List.{List, [], ◌∷◌, ◌++◌}
 use native.Mathlib.Numerals.{add-one}
 use native.Mathlib.Omega.{arith}
-use lib.ListN.{length, take, drop, get_or, drop_of_length-le}
-use lib.Seq.{drop-cons, drop-drop, take-suc}
+use lib.ListN.{drop, get_or, drop_of_length-le}
+use lib.Seq.{drop-cons, drop-drop}
+use Rattle.std.proofs.lemmas.Grind.{take_at_read}
 use Rattle.lists.specs.declared.TraceRecord.{TraceRecord}
 use Rattle.sequence.specs.Sequence.{boot_sequence, past_step}
 use Rattle.lists.specs.Entries.{empty_record}
@@ -14,38 +15,36 @@ use Rattle.boot.specs.Boot.{fits, answered, compared_from, compared, judged}
 use Rattle.sequence.specs.declared.BootStep.{BootStep}
 use Rattle.boot.specs.declared.BootCheck.TheVariants.{Match, Differs, Missing}
 
--- The comparison with one record, where step k is the first missing one.
-past-table : (k j : ℕ) (records : List TraceRecord) → 23 ≤ j → compared_from k (drop j boot_sequence) records ≡ answered Match empty_record
+-- The comparison with one record, where step k, in row j, is the first missing one.
+pub step-past : (k j : ℕ) (r : TraceRecord) → 23 ≤ j → compared_from k (drop j boot_sequence) (r ∷ []) ≡ answered Match empty_record
 unfolding compared_from
-past-table k j records h = rw (drop_of_length-le boot_sequence h)
+step-past k j r h = rw (drop_of_length-le boot_sequence h)
 
-none_left : (k j : ℕ) → j < 23 → compared_from k (drop j boot_sequence) [] ≡ answered (Missing k) empty_record
-unfolding compared_from
-none_left k j h = rw (drop-cons boot_sequence j past_step h)
+module _ (k j : ℕ) (r : TraceRecord) (h : j < 23) where
+  one-step :
+      compared_from k (drop j boot_sequence) (r ∷ []) ≡
+      cond (fits (get_or boot_sequence j past_step) r) (compared_from (k + 1) (drop (suc j) boot_sequence) []) (answered (Differs k) r)
+  unfolding compared_from
+  one-step = rw (drop-cons boot_sequence j past_step h)
 
-one-step :
-    (k j : ℕ) (r : TraceRecord) → j < 23 →
-    compared_from k (drop j boot_sequence) (r ∷ []) ≡
-    cond (fits (get_or boot_sequence j past_step) r) (compared_from (k + 1) (drop (suc j) boot_sequence) []) (answered (Differs k) r)
-unfolding compared_from
-one-step k j r h = rw (drop-cons boot_sequence j past_step h)
+  pub step-differs :
+      fits (get_or boot_sequence j past_step) r ≡ false → compared_from k (drop j boot_sequence) (r ∷ []) ≡ answered (Differs k) r
+  step-differs e = rw e at one-step
 
-module _ (k : ℕ) (r : TraceRecord) where
-  pub judged-past : 23 < k → answered Match empty_record ≡ compared_from k (drop (k - 1) boot_sequence) (r ∷ [])
-  judged-past h = sym (past-table k (k - 1) (r ∷ []) (omega arith))
+  pub step-next :
+      fits (get_or boot_sequence j past_step) r ≡ true → suc j < 23 →
+      compared_from k (drop j boot_sequence) (r ∷ []) ≡ answered (Missing (k + 1)) empty_record
+  unfolding compared_from
+  step-next e l = rw (e, drop-cons boot_sequence (suc j) past_step l) at one-step
 
-  module _ {i : ℕ} {s : BootStep} {b : Bool} (few : k ≤ 23) (at : i ≡ k - 1) (row : s ≡ get_or boot_sequence i past_step) (test : b ≡ fits s r) where
-    step : compared_from k (drop (k - 1) boot_sequence) (r ∷ []) ≡ cond b (compared_from (k + 1) (drop (suc (k - 1)) boot_sequence) []) (answered (Differs k) r)
-    step = one-step k (k - 1) r (omega arith) ∙ (rw (test, row, at))
+  pub step-last :
+      fits (get_or boot_sequence j past_step) r ≡ true → suc j ≡ 23 →
+      compared_from k (drop j boot_sequence) (r ∷ []) ≡ answered Match empty_record
+  unfolding compared_from
+  step-last e l = rw (e, drop_of_length-le boot_sequence {i = suc j} (omega arith)) at one-step
 
-    pub judged-differs : b ≡ false → answered (Differs k) r ≡ compared_from k (drop (k - 1) boot_sequence) (r ∷ [])
-    judged-differs e = sym (rw e at step)
-
-    pub judged-next : b ≡ true → k < 23 → answered (Missing (k + 1)) empty_record ≡ compared_from k (drop (k - 1) boot_sequence) (r ∷ [])
-    judged-next e h = sym ((rw e at step) ∙ none_left (k + 1) (suc (k - 1)) (omega arith))
-
-    pub judged-last : b ≡ true → 23 ≤ k → answered Match empty_record ≡ compared_from k (drop (k - 1) boot_sequence) (r ∷ [])
-    judged-last e h = sym ((rw e at step) ∙ past-table (k + 1) (suc (k - 1)) [] (omega arith))
+-- What `grind` judges a record with.
+pub ruleset steps = (step-past, step-differs, step-next, step-last)
 
 -- The same after records that were judged before.
 after :
@@ -71,7 +70,5 @@ after j (s ∷ steps) (x ∷ records) r e = by-fit (after (suc j) steps records 
 pub judged-compared : (records : List TraceRecord) (r : TraceRecord) → judged (compared records) r ≡ compared (records ++ (r ∷ []))
 judged-compared records r = after 0 boot_sequence records r refl
 
-pub judged-at :
-    (records : List TraceRecord) (k : ℕ) (d : TraceRecord) → k < length records →
-    judged (compared (take k records)) (get_or records k d) ≡ compared (take (k + 1) records)
-judged-at records k d h = judged-compared (take k records) (get_or records k d) ∙ ap compared (rw (add-one k) (sym (take-suc records k d h)))
+-- What `grind` judges the records of a list with, one more at a time.
+pub ruleset records = (judged-compared, take_at_read)

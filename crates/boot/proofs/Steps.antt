@@ -1,27 +1,18 @@
 -- What it means that a record fits a row of the table.
 use Prim.Native.Nat.{ℕ, zero, suc, ◌≤◌, ◌<◌}
 use mathlib.Core.Path.{◌≡◌, refl}
-use mathlib.Core.Bool.{Bool, true, false, not, ◌&&◌}
+use mathlib.Core.Bool.{Bool, true, false, ◌&&◌}
 use mathlib.Core.List.{List, [], ◌∷◌}
 use native.Mathlib.Omega.{arith}
-use borrow.Author.Tests.{eq-eqb, ne_eqb, leb-true}
+use borrow.Author.Tests.{leb-true}
 use lib.Dec.{eqb, leb}
 use lib.ListN.{get_or}
-use Rattle.lists.specs.Params.{differ}
 use Rattle.lists.specs.declared.TraceRecord.{TraceRecord}
 use Rattle.lists.proofs.Alike.{counts-differ}
-use Rattle.lists.proofs.Bools.{both}
+use Rattle.std.proofs.lemmas.Bool.{and_parts}
 use Rattle.sequence.specs.Sequence.{boot_sequence, past_step}
 use Rattle.boot.specs.Boot.{fits}
 use Rattle.sequence.specs.declared.BootStep.{BootStep}
-
-pub other-command : (s : BootStep) (r : TraceRecord) → (s.cmd ≡ r.cmd → ⊥) → false ≡ fits s r
-unfolding fits
-other-command s r h = rw (ne_eqb s.cmd r.cmd h)
-
-pub by-params : (s : BootStep) (r : TraceRecord) {d : Bool} → s.cmd ≡ r.cmd → d ≡ differ s.params r.params → not d ≡ fits s r
-unfolding fits
-by-params s r h e = rw (eq-eqb s.cmd r.cmd h, e)
 
 -- Every row counts at most 14: one test, computed.
 abbrev few : List BootStep → Bool
@@ -30,8 +21,8 @@ few (s ∷ steps) = leb s.params.count 14 && few steps
 
 few-at : (steps : List BootStep) (k : ℕ) → few steps ≡ true → (get_or steps k past_step).params.count ≤ 14
 few-at [] k e = omega arith
-few-at (s ∷ steps) zero e = leb-true s.params.count 14 (both (leb s.params.count 14) (few steps) e).0
-few-at (s ∷ steps) (suc k) e = few-at steps k (both (leb s.params.count 14) (few steps) e).1
+few-at (s ∷ steps) zero e = leb-true s.params.count 14 (and_parts (leb s.params.count 14) (few steps) e).0
+few-at (s ∷ steps) (suc k) e = few-at steps k (and_parts (leb s.params.count 14) (few steps) e).1
 
 -- "A record counting over 14 parameters differs from every step."
 pub over-14-differs : (k : ℕ) (r : TraceRecord) → 14 < r.params.count → fits (get_or boot_sequence k past_step) r ≡ false

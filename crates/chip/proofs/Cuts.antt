@@ -15,7 +15,7 @@ use Rattle.codes.specs.declared.Command.{Command}
 use Rattle.codes.proofs.Bytes.{need_for, need-for}
 use Rattle.lists.specs.Params.{filled}
 use Rattle.lists.specs.declared.Params.{Params}
-use Rattle.lists.proofs.Bools.{both}
+use Rattle.std.proofs.lemmas.Bool.{and_parts}
 use Rattle.lists.proofs.Filling.{count-filled}
 use Rattle.lists.proofs.Cuts.{filled-cut, filled_keeps}
 use Rattle.chip.specs.Apply.{due, byte_at, number_at, window_applied, registers_applied, chip_filled, chip_applied, applied_if_due, chip_taken}
@@ -93,8 +93,8 @@ module _ (k : Kind) (p p' : Params) (agree : (i : ℕ) → i < p.count → byte_
 -- A command that is due has enough.
 due-both : (n : ℕ) (d : Decoder) → due n d ≡ true → (not d.applied ≡ true) × ((ltb 0 n ≡ true) × (n ≤ d.params.count))
 due-both n d e =
-    let t = both (not d.applied) (ltb 0 n && leb n d.params.count) e in
-    let k = both (ltb 0 n) (leb n d.params.count) t.1 in
+    let t = and_parts (not d.applied) (ltb 0 n && leb n d.params.count) e in
+    let k = and_parts (ltb 0 n) (leb n d.params.count) t.1 in
     (t.0, (k.0, leb-true n d.params.count k.1))
 
 pub due-enough : (c : ℕ) (d : Decoder) → due (need_of c) d ≡ true → need_for (kind_of c) ≤ d.params.count

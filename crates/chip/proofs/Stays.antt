@@ -16,7 +16,7 @@ use Rattle.codes.proofs.Numbering.{idle}
 use Rattle.codes.specs.declared.Command.{Command}
 use Rattle.timing.specs.Lint.{times_after}
 use Rattle.timing.specs.declared.Times.{Times}
-use Rattle.lists.proofs.Bools.{neither}
+use Rattle.std.proofs.lemmas.Bool.{or_parts}
 use Rattle.chip.specs.Begin.{full_window, origin, decoder_begun, in_force, effects, registers_begun, walk_begun, walk_reset, chip_begun}
 use Rattle.chip.specs.Apply.{due, chip_filled, chip_applied, applied_if_due, chip_taken}
 use Rattle.chip.specs.declared.Registers.{Registers}
@@ -108,7 +108,7 @@ module _ (m : Command) (t : ℕ) (s : Chip) where
 
   pub begun-idle : (chip_begun m t s).decoder.in_pixels ≡ false → (chip_begun m t s).walk.carry ≡ Empty
   unfolding chip_begun
-  begun-idle e = sym (carry-dropped m.kind s.window s.walk (neither (is m.kind Ramwr) (is m.kind Ramwrc) e).1)
+  begun-idle e = sym (carry-dropped m.kind s.window s.walk (or_parts (is m.kind Ramwr) (is m.kind Ramwrc) e).1)
 
 -- Data for a command leaves the walk and the run alone.
 module _ (m : Command) (bytes : List ℕ) (s : Chip) where

@@ -28,20 +28,16 @@ impl Chip {
             ramctrl0: 0x00,
             ramctrl1: 0x00,
         };
-        let window = full_window(0x00);
-        let pointer = Pointer { x: 0, y: 0 };
         let walk = Walk {
-            pointer,
+            pointer: Pointer { x: 0, y: 0 },
             carry: Carry::Empty,
         };
-        let decoder = Decoder::idle();
-        let times = Times::fresh();
         Chip {
             registers,
-            window,
+            window: full_window(0x00),
             walk,
-            decoder,
-            times,
+            decoder: Decoder::idle(),
+            times: Times::fresh(),
         }
     }
 
@@ -49,13 +45,11 @@ impl Chip {
     pub fn site(self, formats: bool) -> Site
         ensures answer { result ≡ site_of formats self }
     {
-        let window = self.window;
         let registers = self.registers;
-        let format = format_of(formats, registers.colmod, registers.ramctrl1);
         Site {
-            window,
+            window: self.window,
             madctl: registers.madctl,
-            format,
+            format: format_of(formats, registers.colmod, registers.ramctrl1),
         }
     }
 
@@ -64,32 +58,23 @@ impl Chip {
     pub fn begin(self, command: Command, t: u64) -> Chip
         ensures answer { result ≡ chip_begun command t self }
     {
-        let old = self.registers;
-        let old_window = self.window;
-        let old_walk = self.walk;
-        let old_times = self.times;
         let kind = command.kind;
-        let registers = old.begin(kind);
-        let window = begun_window(kind, old.madctl, old_window);
-        let walk = begun_walk(kind, old_window, old_walk);
-        let decoder = Decoder::begun(command);
-        let times = old_times.after(kind, t);
         Chip {
-            registers,
-            window,
-            walk,
-            decoder,
-            times,
+            registers: self.registers.begin(kind),
+            window: begun_window(kind, self.registers.madctl, self.window),
+            walk: begun_walk(kind, self.window, self.walk),
+            decoder: Decoder::begun(command),
+            times: self.times.after(kind, t),
         }
     }
 
     fn fill(self, bytes: &[u8]) -> Chip
         ensures { result ≡ chip_filled bytes.now self }
     {
-        let old = self.decoder;
-        let before = old.params;
-        let params = before.append(bytes);
-        let decoder = Decoder { params, ..old };
+        let decoder = Decoder {
+            params: self.decoder.params.append(bytes),
+            ..self.decoder
+        };
         Chip { decoder, ..self }
     }
 
@@ -97,23 +82,18 @@ impl Chip {
     fn apply(self, command: Command) -> Chip
         ensures { result ≡ applied_if_due command self }
     {
-        let old = self.decoder;
-        if !old.is_due(command.need) {
+        if !self.decoder.is_due(command.need) {
             return self;
         }
         let kind = command.kind;
-        let params = old.params;
-        let old_registers = self.registers;
-        let old_window = self.window;
-        let registers = old_registers.apply(kind, params);
-        let window = applied_window(kind, params, old_registers.madctl, old_window);
+        let params = self.decoder.params;
         let decoder = Decoder {
             applied: true,
-            ..old
+            ..self.decoder
         };
         Chip {
-            registers,
-            window,
+            registers: self.registers.apply(kind, params),
+            window: applied_window(kind, params, self.registers.madctl, self.window),
             decoder,
             ..self
         }
@@ -124,8 +104,7 @@ impl Chip {
     pub fn take(self, command: Command, bytes: &[u8]) -> Chip
         ensures answer { result ≡ chip_taken command bytes.now self }
     {
-        let filled = self.fill(bytes);
-        filled.apply(command)
+        self.fill(bytes).apply(command)
     }
 
     // CS goes high: nothing is in force, and the pointer stays.
@@ -133,18 +112,14 @@ impl Chip {
     pub fn release(self) -> Chip
         ensures answer { result ≡ chip_released self }
     {
-        let pointer = self.walk.pointer;
         let walk = Walk {
-            pointer,
             carry: Carry::Empty,
+            ..self.walk
         };
-        let decoder = Decoder::idle();
-        let old = self.times;
-        let times = old.anew();
         Chip {
             walk,
-            decoder,
-            times,
+            decoder: Decoder::idle(),
+            times: self.times.anew(),
             ..self
         }
     }

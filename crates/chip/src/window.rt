@@ -3,7 +3,6 @@ ghost use Rattle.std.specs.Prelude.{◌≡◌, ◌<◌, min};
 ghost use Rattle.chip.specs.Begin.{full_window, window_begun};
 ghost use Rattle.chip.specs.Apply.{number_at, window_applied};
 
-use crate::decoding::byte_at;
 use codes::Kind;
 use formats::bytewise::joined;
 use geometry::Window;
@@ -12,23 +11,21 @@ use lists::Params;
 pub(crate) fn full_window(madctl: u8) -> Window
     ensures { result ≡ full_window madctl }
 {
-    let xe = geometry::col_max(madctl);
-    let ye = geometry::row_max(madctl);
     Window {
         xs: 0,
-        xe,
+        xe: geometry::col_max(madctl),
         ys: 0,
-        ye,
+        ye: geometry::row_max(madctl),
     }
 }
 
 pub(crate) fn begun_window(kind: Kind, madctl: u8, window: Window) -> Window
     ensures { result ≡ window_begun kind madctl window }
 {
-    if kind.is(Kind::Swreset) {
-        return full_window(madctl);
+    match kind {
+        Kind::Swreset => full_window(madctl),
+        _ => window,
     }
-    window
 }
 
 // The corner at a place of the parameters, cut down.
@@ -36,24 +33,29 @@ fn corner(params: Params, i: usize, most: u16) -> u16
     requires { i < 13 }
     ensures { result ≡ min (number_at params i) most }
 {
-    let at = joined(byte_at(params, i), byte_at(params, i + 1));
-    if at < most { at } else { most }
+    joined(params.bytes[i], params.bytes[i + 1]).min(most)
 }
 
 pub(crate) fn applied_window(kind: Kind, params: Params, madctl: u8, window: Window) -> Window
     ensures { result ≡ window_applied kind params madctl window }
 {
-    if kind.is(Kind::Caset) {
-        let most = geometry::col_max(madctl);
-        let xs = corner(params, 0, most);
-        let xe = corner(params, 2, most);
-        return Window { xs, xe, ..window };
+    match kind {
+        Kind::Caset => {
+            let most = geometry::col_max(madctl);
+            Window {
+                xs: corner(params, 0, most),
+                xe: corner(params, 2, most),
+                ..window
+            }
+        }
+        Kind::Raset => {
+            let most = geometry::row_max(madctl);
+            Window {
+                ys: corner(params, 0, most),
+                ye: corner(params, 2, most),
+                ..window
+            }
+        }
+        _ => window,
     }
-    if kind.is(Kind::Raset) {
-        let most = geometry::row_max(madctl);
-        let ys = corner(params, 0, most);
-        let ye = corner(params, 2, most);
-        return Window { ys, ye, ..window };
-    }
-    window
 }

@@ -2,7 +2,7 @@
 #![tactic(auto)]
 
 ghost use Rattle.std.specs.Prelude.{◌≡◌};
-ghost use Rattle.codes.specs.Codes.{kind_number, is, starts_run, has_effect, place_of};
+ghost use Rattle.codes.specs.Codes.{is, starts_run, has_effect, place_of};
 ghost use Rattle.codes.specs.Table.{kind_numbered, decoded};
 
 pub use numbers::table;
@@ -10,7 +10,7 @@ pub use numbers::table;
 mod numbers;
 
 // The kinds, by the names of their commands. The twelve from Porctrl on are stored; the last is that of all other bytes.
-#[derive(Clone, Copy)]
+#[derive(Clone, Copy, Debug, PartialEq, Eq)]
 pub enum Kind {
     Swreset,
     Slpin,
@@ -41,46 +41,50 @@ pub enum Kind {
     NoEffect,
 }
 
-// A command byte and what it is. `need` is how many parameters it applies at, 0 where it applies nothing.
-#[derive(Clone, Copy)]
+// A command byte and what it is. `need` is how many parameters it applies at, 0 where it applies nothing: the entry's last digit, as
+// `decoded` says, so no Option.
+#[derive(Clone, Copy, Debug, PartialEq, Eq)]
 pub struct Command {
     pub code: u8,
     pub kind: Kind,
     pub need: u8,
 }
 
-#[tactic(auto, unfolding(crate::specs::Table::kind_numbered))]
-fn kind_numbered(number: u16) -> Kind
-    ensures { result ≡ kind_numbered number }
-{
-    match number {
-        1 => Kind::Swreset,
-        2 => Kind::Slpin,
-        3 => Kind::Slpout,
-        4 => Kind::Invoff,
-        5 => Kind::Invon,
-        6 => Kind::Dispoff,
-        7 => Kind::Dispon,
-        8 => Kind::Caset,
-        9 => Kind::Raset,
-        10 => Kind::Ramwr,
-        11 => Kind::Madctl,
-        12 => Kind::Colmod,
-        13 => Kind::Ramwrc,
-        14 => Kind::Ramctrl,
-        15 => Kind::Porctrl,
-        16 => Kind::Gctrl,
-        17 => Kind::Vcoms,
-        18 => Kind::Lcmctrl,
-        19 => Kind::Vdvvrhen,
-        20 => Kind::Vrhs,
-        21 => Kind::Vdvs,
-        22 => Kind::Frctrl2,
-        23 => Kind::Pwctrl1,
-        24 => Kind::VendorD6,
-        25 => Kind::Pvgamctrl,
-        26 => Kind::Nvgamctrl,
-        _ => Kind::NoEffect,
+// The kind of a number of the table, NoEffect for one that no other kind has.
+impl From<u16> for Kind {
+    ghost from_gives = { λ n k. k ≡ kind_numbered n };
+
+    #[tactic(auto, unfolding(crate::specs::Table::kind_numbered))]
+    fn from(number: u16) -> Kind {
+        match number {
+            1 => Kind::Swreset,
+            2 => Kind::Slpin,
+            3 => Kind::Slpout,
+            4 => Kind::Invoff,
+            5 => Kind::Invon,
+            6 => Kind::Dispoff,
+            7 => Kind::Dispon,
+            8 => Kind::Caset,
+            9 => Kind::Raset,
+            10 => Kind::Ramwr,
+            11 => Kind::Madctl,
+            12 => Kind::Colmod,
+            13 => Kind::Ramwrc,
+            14 => Kind::Ramctrl,
+            15 => Kind::Porctrl,
+            16 => Kind::Gctrl,
+            17 => Kind::Vcoms,
+            18 => Kind::Lcmctrl,
+            19 => Kind::Vdvvrhen,
+            20 => Kind::Vrhs,
+            21 => Kind::Vdvs,
+            22 => Kind::Frctrl2,
+            23 => Kind::Pwctrl1,
+            24 => Kind::VendorD6,
+            25 => Kind::Pvgamctrl,
+            26 => Kind::Nvgamctrl,
+            _ => Kind::NoEffect,
+        }
     }
 }
 
@@ -89,86 +93,64 @@ pub fn decode(table: &[u16; 256], c: u8) -> Command
     ensures answer { result ≡ decoded table.now c }
 {
     let entry = table[c as usize];
-    let kind = kind_numbered(entry / 16);
-    let need = (entry % 16) as u8;
     Command {
         code: c,
-        kind,
-        need,
+        kind: Kind::from(entry / 16),
+        need: (entry % 16) as u8,
     }
 }
 
 impl Kind {
-    fn number(self) -> u16
-        ensures { result ≡ kind_number self }
-    {
-        match self {
-            Kind::Swreset => 1,
-            Kind::Slpin => 2,
-            Kind::Slpout => 3,
-            Kind::Invoff => 4,
-            Kind::Invon => 5,
-            Kind::Dispoff => 6,
-            Kind::Dispon => 7,
-            Kind::Caset => 8,
-            Kind::Raset => 9,
-            Kind::Ramwr => 10,
-            Kind::Madctl => 11,
-            Kind::Colmod => 12,
-            Kind::Ramwrc => 13,
-            Kind::Ramctrl => 14,
-            Kind::Porctrl => 15,
-            Kind::Gctrl => 16,
-            Kind::Vcoms => 17,
-            Kind::Lcmctrl => 18,
-            Kind::Vdvvrhen => 19,
-            Kind::Vrhs => 20,
-            Kind::Vdvs => 21,
-            Kind::Frctrl2 => 22,
-            Kind::Pwctrl1 => 23,
-            Kind::VendorD6 => 24,
-            Kind::Pvgamctrl => 25,
-            Kind::Nvgamctrl => 26,
-            Kind::NoEffect => 255,
-        }
-    }
-
-    // Whether two kinds are the same.
+    // Whether two kinds are the same: `==` under the name that is promised, `is`.
     pub fn is(self, other: Kind) -> bool
         ensures answer { result ≡ is self other }
     {
-        self.number() == other.number()
+        self == other
     }
 
     // Whether the data after it is pixels.
     pub fn starts_run(self) -> bool
         ensures answer { result ≡ starts_run self }
     {
-        self.is(Kind::Ramwr) | self.is(Kind::Ramwrc)
+        matches!(self, Kind::Ramwr | Kind::Ramwrc)
     }
 
     // Whether it does something at once, when it begins.
     pub fn has_effect(self) -> bool
         ensures answer { result ≡ has_effect self }
     {
-        let number = self.number();
-        (1 <= number) & (number <= 7)
+        matches!(
+            self,
+            Kind::Swreset
+                | Kind::Slpin
+                | Kind::Slpout
+                | Kind::Invoff
+                | Kind::Invon
+                | Kind::Dispoff
+                | Kind::Dispon
+        )
     }
 }
 
 impl Command {
-    // The place of a stored command, 12 for any other.
+    // The place of a stored command, 12 for any other: `place_of` is what is promised of it, so no Option.
     pub fn place(self) -> usize
         ensures answer { result ≡ place_of self.kind }
     {
-        let kind = self.kind;
-        let number = kind.number();
-        if number < 15 {
-            return 12;
+        match self.kind {
+            Kind::Porctrl => 0,
+            Kind::Gctrl => 1,
+            Kind::Vcoms => 2,
+            Kind::Lcmctrl => 3,
+            Kind::Vdvvrhen => 4,
+            Kind::Vrhs => 5,
+            Kind::Vdvs => 6,
+            Kind::Frctrl2 => 7,
+            Kind::Pwctrl1 => 8,
+            Kind::VendorD6 => 9,
+            Kind::Pvgamctrl => 10,
+            Kind::Nvgamctrl => 11,
+            _ => 12,
         }
-        if number < 27 {
-            return (number - 15) as usize;
-        }
-        12
     }
 }

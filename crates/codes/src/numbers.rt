@@ -1,4 +1,5 @@
 // The table: a number for each command byte. Its last hex digit is how many parameters the command applies at, the others are its kind.
+// One number for both: a constant is laid out where it is named, so the table is small, and `decode` takes a number apart.
 // None is 0: of zeros and other numbers in turn the compiler stores each by itself, of these eight at a time.
 ghost use Rattle.std.specs.Prelude.{◌≡◌};
 ghost use Rattle.codes.specs.Table.{table};

@@ -1,5 +1,5 @@
 -- Whole pixels: how many they are, and which bytes each is of.
-use Prim.Native.Nat.{ℕ, zero, suc, ◌+◌, ◌*◌, ◌/◌, ◌%◌, ◌≤◌}
+use Prim.Native.Nat.{ℕ, zero, suc, ◌+◌, ◌*◌, ◌≤◌}
 use mathlib.Core.Path.{◌≡◌, refl, ap, sym, ◌∙◌}
 use mathlib.Core.List.{List, [], ◌∷◌}
 use native.Mathlib.Omega.{arith}
@@ -30,10 +30,6 @@ whole-most Twelve n = omega arith
 whole-most HighFirst n = omega arith
 whole-most LowFirst n = omega arith
 whole-most Eighteen n = omega arith
-
--- in 12 bits as the code counts them
-pub whole-twelve : (n : ℕ) → n % 3 ≡ 0 → n / 3 * 2 ≡ 2 * n / 3
-whole-twelve n e = omega arith
 
 none-held : (c : Carry) → held c ≡ 0 → c ≡ Empty
 none-held Empty e = refl

@@ -10,15 +10,11 @@ use formats::{Carry, Format};
 pub(crate) fn is_high_first(format: Format) -> bool
     ensures { result ≡ true → format ≡ HighFirst }
 {
-    match format {
-        Format::Twelve => false,
-        Format::HighFirst => true,
-        Format::LowFirst => false,
-        Format::Eighteen => false,
-    }
+    matches!(format, Format::HighFirst)
 }
 
-// How many bytes the first that waits waits for.
+// How many bytes the first that waits waits for. Here and below each format has its own arm: with shared arms, or one function for the
+// round of a format, 8x16 boxes take up to a fifth longer.
 fn missing(format: Format) -> usize
     ensures { result ≡ missing_in format }
 {
@@ -36,8 +32,8 @@ pub(crate) fn head_bytes(format: Format, waiting: Carry) -> usize
 {
     match waiting {
         Carry::Empty => 0,
-        Carry::One(a) => missing(format),
-        Carry::Two(a, b) => 1,
+        Carry::One(_) => missing(format),
+        Carry::Two(_, _) => 1,
     }
 }
 
@@ -53,16 +49,26 @@ pub(crate) fn rest_bytes(format: Format, bytes: usize) -> usize
     }
 }
 
-// How many pixels so many bytes are.
-pub(crate) fn whole_pixels(format: Format, bytes: usize) -> usize
-    requires { rest_in format bytes ≡ 0 }
-    ensures { result ≡ whole_in format bytes }
-{
-    match format {
-        Format::Twelve => bytes / 3 * 2,
-        Format::HighFirst => bytes / 2,
-        Format::LowFirst => bytes / 2,
-        Format::Eighteen => bytes / 3,
+// Bytes that are whole pixels of a format: the first begins one and none is left.
+#[derive(Clone, Copy)]
+pub(crate) struct Whole<'a> {
+    pub(crate) format: Format,
+    pub(crate) bytes: &'a [u8],
+    ghost none_left: { rest_in format (length bytes.now) ≡ 0 },
+}
+
+impl Whole<'_> {
+    // How many pixels they are.
+    pub(crate) fn pixels(self) -> usize
+        ensures { result ≡ whole_in self.entry.format (length self.entry.bytes.now) }
+    {
+        let bytes = self.bytes.len();
+        match self.format {
+            Format::Twelve => bytes / 3 * 2,
+            Format::HighFirst => bytes / 2,
+            Format::LowFirst => bytes / 2,
+            Format::Eighteen => bytes / 3,
+        }
     }
 }
 

@@ -1,4 +1,5 @@
 -- Bytes a ++ b are a and then b, and no byte completes more than one pixel: laws of the fold, by the step alone, so of every format.
+use Rattle.std.specs.Prelude.{Option, Some, None}
 use Prim.Native.Nat.{ℕ, ◌≤◌}
 use mathlib.Core.Path.{◌≡◌, refl}
 use mathlib.Core.List.{List, [], ◌∷◌, ◌++◌, foldl-append, append_assoc}
@@ -6,8 +7,6 @@ use native.Mathlib.Omega.{arith}
 use lib.ListN.{length, length-append}
 use Rattle.formats.specs.declared.Format.{Format}
 use Rattle.formats.specs.declared.Carry.{Carry}
-use Rattle.formats.specs.declared.Pixel.{Pixel}
-use Rattle.formats.specs.declared.Pixel.TheVariants.{Complete, Pending}
 use Rattle.formats.specs.Bytes.{arrival, listed, pixels_of, carry_after}
 
 module _ (f : Format) where
@@ -18,9 +17,9 @@ module _ (f : Format) where
   pub carry-cut : (a b : List ℕ) (c : Carry) → carry_after f c (a ++ b) ≡ carry_after f (carry_after f c a) b
   carry-cut a b c = foldl-append (λ w x. (arrival f w x).waiting) c a b
 
-  one_at_most : (p : Pixel) → length (listed p) ≤ 1
-  one_at_most (Complete v) = omega arith
-  one_at_most Pending = omega arith
+  one_at_most : (p : Option ℕ) → length (listed p) ≤ 1
+  one_at_most (Some v) = omega arith
+  one_at_most None = omega arith
 
   pub pixels-few : (c : Carry) (bytes : List ℕ) → length (pixels_of f c bytes) ≤ length bytes
   pixels-few c [] = omega arith

@@ -1,13 +1,11 @@
 -- Rules: 01, "Data in a run", and 02, Q-5: bytes to pixels. One step, a byte that arrives at what waits; nothing else knows how bytes form a
 -- pixel.
-use Rattle.std.specs.Prelude.{ℕ, ◌+◌, ◌*◌, ◌/◌, ◌%◌}
+use Rattle.std.specs.Prelude.{ℕ, ◌+◌, ◌*◌, ◌/◌, ◌%◌, Option, Some, None}
 use mathlib.Core.List.{List, [], ◌∷◌, ◌++◌, foldl}
 use Rattle.formats.specs.declared.Format.{Format}
 use Rattle.formats.specs.declared.Format.TheVariants.{Twelve, HighFirst, LowFirst, Eighteen}
 use Rattle.formats.specs.declared.Carry.{Carry}
 use Rattle.formats.specs.declared.Carry.TheVariants.{Empty, One, Two}
-use Rattle.formats.specs.declared.Pixel.{Pixel}
-use Rattle.formats.specs.declared.Pixel.TheVariants.{Complete, Pending}
 use Rattle.formats.specs.declared.Arrived.{Arrived}
 
 -- A pixel of memory: five bits of red, six of green, five of blue.
@@ -37,10 +35,10 @@ narrowed a b c = colour (a / 4 / 2) (b / 4) (c / 4 / 2)
 
 -- A byte that completes no pixel, and one that does.
 abbrev pub waits : Carry → Arrived
-waits waiting = record { waiting = waiting; pixel = Pending }
+waits waiting = record { waiting = waiting; pixel = None }
 
 abbrev pub completes : ℕ → Carry → Arrived
-completes value waiting = record { waiting = waiting; pixel = Complete value }
+completes value waiting = record { waiting = waiting; pixel = Some value }
 
 -- A byte after one that waits. In 16 bits "pairs form pixels, high byte first", and ENDIAN "turns the byte order". In 12 bits the first pixel
 -- is "stored when its last bit arrives", in the second byte; the other pixel begins in it, so that both bytes stay.
@@ -64,9 +62,9 @@ arrival f (One a) b = second f a b
 arrival f (Two a b) c = third f a b c
 
 -- The pixel of a step, if there is one.
-abbrev pub listed : Pixel → List ℕ
-listed (Complete value) = value ∷ []
-listed Pending = []
+abbrev pub listed : Option ℕ → List ℕ
+listed (Some value) = value ∷ []
+listed None = []
 
 -- The pixels that bytes complete, after what waits: the step, byte by byte.
 abbrev pub pixels_of : Format → Carry → List ℕ → List ℕ

@@ -2,20 +2,20 @@
 ghost use Rattle.std.specs.Prelude.{◌≡◌, ◌+◌, ◌*◌, ◌<◌};
 ghost use Rattle.formats.specs.Bytes.{colour, widened, first_of_two, second_of_two, narrowed, waits, completes, second, third, arrival};
 
-use crate::{Arrived, Carry, Format, Pixel};
+use crate::{Arrived, Carry, Format};
 
 // The number of two bytes, high byte first.
 pub fn joined(high: u8, low: u8) -> u16
     ensures answer { result ≡ high * 256 + low }
 {
-    (high as u16) * 256 + (low as u16)
+    u16::from_be_bytes([high, low])
 }
 
 fn side_by_side(red: u8, green: u8, blue: u8) -> u16
     requires { (red < 32) × (green < 64) × (blue < 32) }
     ensures { result ≡ colour red green blue }
 {
-    (red as u16) * 2048 + (green as u16) * 32 + (blue as u16)
+    u16::from(red) * 2048 + u16::from(green) * 32 + u16::from(blue)
 }
 
 // Four bits of each colour, widened by repeating the top ones.
@@ -55,7 +55,7 @@ fn wait(waiting: Carry) -> Arrived
 {
     Arrived {
         waiting,
-        pixel: Pixel::Pending,
+        pixel: None,
     }
 }
 
@@ -64,7 +64,7 @@ fn complete(pixel: u16, waiting: Carry) -> Arrived
 {
     Arrived {
         waiting,
-        pixel: Pixel::Complete(pixel),
+        pixel: Some(pixel),
     }
 }
 

@@ -5,7 +5,7 @@ pub mod bytewise;
 pub mod in_force;
 
 // How bytes make a pixel: 12 bits, 16 bits with the high byte or the low byte first, 18 bits.
-#[derive(Clone, Copy)]
+#[derive(Clone, Copy, Debug, PartialEq, Eq)]
 pub enum Format {
     Twelve,
     HighFirst,
@@ -14,23 +14,16 @@ pub enum Format {
 }
 
 // The bytes that wait for the rest of their pixel, the first one first.
-#[derive(Clone, Copy)]
+#[derive(Clone, Copy, Debug, PartialEq, Eq)]
 pub enum Carry {
     Empty,
     One(u8),
     Two(u8, u8),
 }
 
-// The pixel that a byte completes, if it completes one.
-#[derive(Clone, Copy)]
-pub enum Pixel {
-    Complete(u16),
-    Pending,
-}
-
-// What a byte leaves.
-#[derive(Clone, Copy)]
+// What a byte leaves: the bytes that wait, and the pixel that it completes, if it completes one.
+#[derive(Clone, Copy, Debug, PartialEq, Eq)]
 pub struct Arrived {
     pub waiting: Carry,
-    pub pixel: Pixel,
+    pub pixel: Option<u16>,
 }

@@ -9,7 +9,7 @@ use Rattle.geometry.specs.Place.{map_of, outcome, next}
 use Rattle.marks.specs.Rows.{no_rows, all_rows, mark, span_of, marks_bad}
 use Rattle.pixels.specs.Run.{stores, walk_after, pixels_counted, totals_of}
 use Rattle.codes.specs.Codes.{kind_of, need_of}
-use Rattle.lists.proofs.Bools.{both}
+use Rattle.std.proofs.lemmas.Bool.{and_parts}
 use Rattle.lists.specs.Params.{filled, differ}
 use Rattle.timing.specs.Lint.{broken_by, times_after}
 use Rattle.board.specs.Board.{switched_to, formats_set}
@@ -47,7 +47,7 @@ passes h (c ∷ calls) = eqb (refusal h c) 0 && passes (step h c) calls
 passed : (h : Host) (calls : List Call) → passes h calls ≡ true → Accepted defined h calls
 passed h [] e = tt
 passed h (c ∷ calls) e =
-    let b = both (eqb (refusal h c) 0) (passes (step h c) calls) e in
+    let b = and_parts (eqb (refusal h c) 0) (passes (step h c) calls) e in
     (eqb-true (refusal h c) 0 b.0, passed (step h c) calls b.1)
 
 -- One name that opens every definition, for what is computed.

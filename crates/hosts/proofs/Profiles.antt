@@ -1,6 +1,7 @@
 -- The profiles, whatever operations are made on a fresh panel: it keeps the one that it is made with; under plain all is as before; and of
 -- two panels, one under each, everything but the warnings and the profile is equal at every moment, and the warnings of rules 1 to 3 are
 -- while the strict one's list is not full.
+use Rattle.std.specs.Prelude.{None}
 use Prim.Native.Nat.{ℕ}
 use mathlib.Core.Path.{◌≡◌, refl, sym, ap, ap₂, ◌∙◌}
 use mathlib.Core.Bool.{Bool, true, false, cond}
@@ -8,7 +9,6 @@ use mathlib.Core.List.{List, [], ◌∷◌, foldl}
 use lib.Dec.{eqb}
 use lib.ListN.{length, take}
 use Rattle.marks.specs.Rows.{span_of}
-use Rattle.marks.specs.declared.Span.TheVariants.{Nothing}
 use Rattle.lists.specs.Fixed.{used}
 use Rattle.status.specs.Numbers.{unless_refused}
 use Rattle.status.specs.Tests.{first, memory_refusal, publish_row}
@@ -52,7 +52,7 @@ module _ (p s : St7789p3) (w : Beside p s) where
         totals = totals-beside p s w;
         publish = publish-refusal;
         frame = λ n memory frame. ap (λ (r : St7789p3). unless_refused n (span_copied (span_of r.controller.marks) memory frame) frame) w.agree.rest;
-        span = λ n. ap (λ (r : St7789p3). unless_refused n (span_of r.controller.marks) Nothing) w.agree.rest;
+        span = λ n. ap (λ (r : St7789p3). unless_refused n (span_of r.controller.marks) None) w.agree.rest;
         flags = λ n. ap (λ (r : St7789p3). unless_refused n (flags_of r.controller) no_flags) w.agree.rest;
         pixel = λ v x y memory. ap (λ (r : St7789p3). pixel_seen v r.controller x y memory) w.agree.rest;
         view = λ v memory buffer. ap (λ (r : St7789p3). frame_seen v r.controller memory buffer) w.agree.rest;

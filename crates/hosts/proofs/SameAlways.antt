@@ -1,4 +1,5 @@
 -- States that 01 calls the same stay the same under every operation, publishing among them, and so under any number of them.
+use Rattle.std.specs.Prelude.{None}
 use Prim.Native.Nat.{ℕ}
 use mathlib.Core.Path.{◌≡◌, refl, ap, ◌∙◌}
 use mathlib.Core.Bool.{Bool, true, false, cond}
@@ -10,7 +11,6 @@ use Rattle.status.specs.Numbers.{unless_refused}
 use Rattle.status.specs.Tests.{first, memory_refusal, publish_row}
 use Rattle.status.proofs.Unless.{unless-either}
 use Rattle.marks.specs.Rows.{span_of}
-use Rattle.marks.specs.declared.Span.TheVariants.{Nothing}
 use Rattle.board.specs.Board.{is_board_rail}
 use Rattle.st7789.specs.Parts.{with_controller}
 use Rattle.st7789.specs.Refusals.{transfer_refusal}
@@ -49,7 +49,7 @@ module _ (s r : St7789p3) (e : Same s r) where
 
     pub span_same : published_span n s ≡ published_span n r
     unfolding published_span
-    span_same = ap (λ v. unless_refused n (span_of v.fields.marks) Nothing) e
+    span_same = ap (λ v. unless_refused n (span_of v.fields.marks) None) e
 
     pub flags-same : published_flags n s ≡ published_flags n r
     unfolding published_flags

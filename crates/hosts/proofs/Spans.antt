@@ -1,4 +1,5 @@
 -- The smallest span that holds the rows stored to.
+use Rattle.std.specs.Prelude.{Option, Some, None}
 use Prim.Native.Nat.{ℕ, ◌≤◌, min, max}
 use mathlib.Core.Path.{◌≡◌, refl, ap, ◌∙◌}
 use mathlib.Core.Logic.{⊎_elim}
@@ -10,8 +11,6 @@ use borrow.Author.Tests.{leb-true, leb-false}
 use lib.Dec.{leb}
 use Rattle.marks.specs.Rows.{widened, no_rows, all_rows, mark, span_of}
 use Rattle.marks.specs.declared.Marks.{Marks}
-use Rattle.marks.specs.declared.Span.{Span}
-use Rattle.marks.specs.declared.Span.TheVariants.{Nothing, Rows}
 use Rattle.marks.proofs.Laws.{span_none, span-mark, mark-all}
 use Rattle.hosts.specs.Hosts.{nothing_since, Smallest, Hull, Marked}
 
@@ -22,15 +21,15 @@ pub smallest-least :
 smallest-least first last f l rows s h = ((h first s.first-among).0, (h last s.last-among).1)
 
 -- One row more in the smallest span.
-hull-mark : (r : ℕ) (d : Span) (rows : List ℕ) → Hull d rows → Hull (widened d r) (rows ++ (r ∷ []))
-hull-mark r Nothing rows h =
+hull-mark : (r : ℕ) (d : Option (ℕ × ℕ)) (rows : List ℕ) → Hull d rows → Hull (widened d r) (rows ++ (r ∷ []))
+hull-mark r None rows h =
     rw h
     (record {
       holds = λ x m. let e = Memᴰ.eq_of_singleton m in (omega arith, omega arith);
       first-among = Memᴰ.head refl;
       last-among = Memᴰ.head refl;
     })
-hull-mark r (Rows f l) rows h =
+hull-mark r (Some (f, l)) rows h =
     record {
       holds = λ x m.
           ⊎_elim (λ k. let i = h.holds x k in (omega arith, omega arith)) (λ k. let e = Memᴰ.eq_of_singleton k in (omega arith, omega arith))

@@ -1,4 +1,5 @@
 -- Whatever operations are made on a fresh panel, each of its counts is the one that they and what they send come to.
+use Rattle.std.specs.Prelude.{Option, Some, None}
 use Prim.Native.Nat.{ℕ, ◌+◌, ◌<◌}
 use mathlib.Core.Path.{◌≡◌, refl, sym, ap, ◌∙◌}
 use mathlib.Core.Bool.{Bool, true, false, cond}
@@ -14,14 +15,11 @@ use Rattle.codes.proofs.Bytes.{is-ramwr}
 use Rattle.lists.specs.Fixed.{Fixed, places, used, push, push_all}
 use Rattle.lists.specs.declared.Params.{Params}
 use Rattle.lists.specs.declared.TraceRecord.{TraceRecord}
-use Rattle.lists.specs.declared.Current.{Current}
-use Rattle.lists.specs.declared.Current.TheVariants.{Nothing, At}
 use Rattle.lists.proofs.Fixed.{used_all}
-use Rattle.lists.proofs.Maps.{map-take, map-set}
+use Rattle.std.proofs.lemmas.List.{map-set}
+use Rattle.lists.proofs.Maps.{map-take}
 use Rattle.board.specs.Board.{is_board_rail}
 use Rattle.board.specs.declared.PanelConfig.{PanelConfig}
-use Rattle.chip.specs.declared.InForce.{InForce}
-use Rattle.chip.specs.declared.InForce.TheVariants.{Code}
 use Rattle.st7789.specs.Parts.{trace_of, with_controller}
 use Rattle.st7789.specs.Command.{begun_record, begun, begun_all, controller_released, released}
 use Rattle.st7789.specs.Data.{no_record, on_current, more_pixels, more_params, ran, taken, data_in}
@@ -110,10 +108,10 @@ all-tallied t bytes s g =
 -- Data: the current record's pixel bytes grow, or it keeps them.
 held_grown :
     (f : TraceRecord → TraceRecord) (n : ℕ) → ((r : TraceRecord) → bytes_of (f r) ≡ bytes_of r + n) →
-    (k : Current) (t : Fixed TraceRecord) (p : Params) → Lined k t p →
+    (k : Option ℕ) (t : Fixed TraceRecord) (p : Params) → Lined k t p →
     map bytes_of (take t.count (on_current f k t.places)) ≡ grown_at k n (map bytes_of (used t))
-held_grown f n grows Nothing t p v = refl
-held_grown f n grows (At i) t p v =
+held_grown f n grows None t p v = refl
+held_grown f n grows (Some i) t p v =
     let m : ℕ = t.count in
     let l : List TraceRecord = t.places in
     let h : i < m = omega (arith, (lasting v).last) in
@@ -123,10 +121,10 @@ held_grown f n grows (At i) t p v =
     (grows (get_or l i no_record) ∙ ap (λ r. bytes_of r + n) (sym (get_or-take m l i no_record h)) ∙ ap (λ b. b + n) (sym (get_or-map bytes_of (take m l) i no_record)))
 
 held_kept :
-    (f : TraceRecord → TraceRecord) → ((r : TraceRecord) → bytes_of (f r) ≡ bytes_of r) → (k : Current) (m : ℕ) (l : List TraceRecord) →
+    (f : TraceRecord → TraceRecord) → ((r : TraceRecord) → bytes_of (f r) ≡ bytes_of r) → (k : Option ℕ) (m : ℕ) (l : List TraceRecord) →
     map bytes_of (take m (on_current f k l)) ≡ map bytes_of (take m l)
-held_kept f keeps Nothing m l = refl
-held_kept f keeps (At i) m l =
+held_kept f keeps None m l = refl
+held_kept f keeps (Some i) m l =
     map-take bytes_of m (set l i (f (get_or l i no_record)))
     ∙ ap (take m) (map-set_same bytes_of l i (f (get_or l i no_record)) no_record (keeps (get_or l i no_record)))
     ∙ sym (map-take bytes_of m l)
@@ -142,7 +140,7 @@ data-tallied bytes s g = go s.controller.chip.decoder.in_pixels s.controller.chi
     k = s.controller
 
     -- What is left of a segment without a run, by the command in force.
-    listed : InForce → Tally
+    listed : Option ℕ → Tally
     listed f =
         record {
           commands = k.counts.commands;
@@ -154,12 +152,12 @@ data-tallied bytes s g = go s.controller.chip.decoder.in_pixels s.controller.chi
           held = (counts_in s).held;
         }
 
-    go : (run : Bool) (f : InForce) → counts_in (data_by run f bytes s) ≡ cond run (pixels_sent bytes k (counts_in s)) (listed f)
+    go : (run : Bool) (f : Option ℕ) → counts_in (data_by run f bytes s) ≡ cond run (pixels_sent bytes k (counts_in s)) (listed f)
     go true f =
         tally-same refl refl refl refl refl refl
         (held_grown (more_pixels (length bytes)) (length bytes) (λ r. refl) k.logs.current (trace_of s) k.chip.decoder.params (lined s (fine_of s g)))
-    go false InForce.Nothing = tally-same refl refl refl (omega arith) refl refl (held_kept (λ r. r) (λ r. refl) k.logs.current k.logs.traced s.records)
-    go false (Code c) = tally-same refl refl refl refl refl refl (held_kept (more_params bytes) (λ r. refl) k.logs.current k.logs.traced s.records)
+    go false None = tally-same refl refl refl (omega arith) refl refl (held_kept (λ r. r) (λ r. refl) k.logs.current k.logs.traced s.records)
+    go false (Some c) = tally-same refl refl refl refl refl refl (held_kept (more_params bytes) (λ r. refl) k.logs.current k.logs.traced s.records)
 
 -- A whole segment; the CS release counts nothing.
 moved-tallied :

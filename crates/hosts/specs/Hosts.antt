@@ -1,11 +1,9 @@
 -- Rules: demand 3, the calls of two hosts, the rows stored to since a publish, and what holds of the two.
-use Rattle.std.specs.Prelude.{ℕ, ◌*◌, ◌≤◌, ◌≡◌, Bool, true, false, cond, ◌||◌, take, drop}
+use Rattle.std.specs.Prelude.{ℕ, ◌*◌, ◌≤◌, ◌≡◌, Bool, true, false, cond, ◌||◌, take, drop, Option, Some, None}
 use mathlib.Core.List.{List, [], ◌∷◌, ◌++◌, map, Memᴰ}
 use Rattle.pixels.specs.Run.{row_of}
 use Rattle.marks.specs.Rows.{no_rows, all_rows, is_marked, span_of}
 use Rattle.marks.specs.declared.Marks.{Marks}
-use Rattle.marks.specs.declared.Span.{Span}
-use Rattle.marks.specs.declared.Span.TheVariants.{Nothing, Rows}
 use Rattle.board.specs.Board.{is_board_rail}
 use Rattle.board.specs.declared.PanelConfig.{PanelConfig}
 use Rattle.st7789.specs.Data.{stores_in}
@@ -90,9 +88,9 @@ pub record Smallest (first last : ℕ) (rows : List ℕ) : Type 0 where
   pub last-among : Memᴰ last rows
 
 -- The same of a span: the empty one holds no row.
-abbrev pub Hull : Span → List ℕ → Type 0
-Hull Nothing rows = rows ≡ []
-Hull (Rows first last) rows = Smallest first last rows
+abbrev pub Hull : Option (ℕ × ℕ) → List ℕ → Type 0
+Hull None rows = rows ≡ []
+Hull (Some (first, last)) rows = Smallest first last rows
 
 -- "the span marked for copying: the smallest holding every row stored to since the last publish, or all 320 rows after a board-rail
 -- reset or a mark-all since then"

@@ -1,8 +1,6 @@
 -- Examples: two hosts for which demand 3 says something: what both have to do, and the calls of each.
-use Rattle.std.specs.Prelude.{ℕ, Bool, true, false, ◌&&◌, List, [], ◌∷◌, get_or, eqb}
+use Rattle.std.specs.Prelude.{ℕ, Bool, true, false, ◌&&◌, List, [], ◌∷◌, get_or, eqb, Option, Some, None}
 use Rattle.marks.specs.Rows.{span_of}
-use Rattle.marks.specs.declared.Span.{Span}
-use Rattle.marks.specs.declared.Span.TheVariants.{Nothing, Rows}
 use Rattle.board.specs.declared.BoardDomain.TheVariants.{BoardRail}
 use Rattle.light.specs.declared.FrameView.TheVariants.{Glass}
 use Rattle.views.specs.declared.Memory.TheVariants.{Panel}
@@ -83,9 +81,9 @@ abbrev pub pixel_cut : List Call
 pixel_cut = commands 5 (0x2C ∷ []) false ∷ segment 1 (0xFC ∷ 0x00 ∷ []) false ∷ publish ∷ segment 2 (0x00 ∷ []) false ∷ []
 
 -- Whether a span is these rows.
-abbrev pub is_rows : ℕ → ℕ → Span → Bool
-is_rows f l Nothing = false
-is_rows f l (Rows first last) = eqb first f && eqb last l
+abbrev pub is_rows : ℕ → ℕ → Option (ℕ × ℕ) → Bool
+is_rows f l None = false
+is_rows f l (Some (first, last)) = eqb first f && eqb last l
 
 -- What a host leaves to its last publish: row 9, stored to since the publish before, and not yet in the frame.
 abbrev pub left_over : Host → Bool

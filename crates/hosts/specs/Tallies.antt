@@ -1,17 +1,13 @@
 -- Rules: what each count of a panel is, from the operations made on it and what they send, refused ones adding nothing.
-use Rattle.std.specs.Prelude.{ℕ, ◌+◌, Bool, cond, List, [], ◌∷◌, ◌++◌, map, eqb, length, take, set, get_or, replicate}
+use Rattle.std.specs.Prelude.{ℕ, ◌+◌, Bool, cond, List, [], ◌∷◌, ◌++◌, map, eqb, length, take, set, get_or, replicate, Option, Some, None}
 use Rattle.status.specs.Numbers.{unless_refused}
 use Rattle.status.specs.Tests.{memory_refusal}
 use Rattle.lists.specs.Fixed.{places, used}
 use Rattle.lists.specs.Params.{excess}
 use Rattle.lists.specs.declared.Params.{Params}
-use Rattle.lists.specs.declared.Current.{Current}
-use Rattle.lists.specs.declared.Current.TheVariants.{Nothing, At}
 use Rattle.board.specs.Board.{is_board_rail}
 use Rattle.board.specs.declared.PanelConfig.{PanelConfig}
 use Rattle.chip.specs.Site.{chip_counted, chip_totals}
-use Rattle.chip.specs.declared.InForce.{InForce}
-use Rattle.chip.specs.declared.InForce.TheVariants.{Code}
 use Rattle.st7789.specs.Parts.{trace_of}
 use Rattle.st7789.specs.Entries.{fresh_panel, refusal_with}
 use Rattle.st7789.specs.declared.Controller.{Controller}
@@ -52,9 +48,9 @@ commands_sent bytes y =
     }
 
 -- "the current record's pixel bytes grow by the length"
-abbrev pub grown_at : Current → ℕ → List ℕ → List ℕ
-grown_at Nothing n held = held
-grown_at (At i) n held = set held i (get_or held i 0 + n)
+abbrev pub grown_at : Option ℕ → ℕ → List ℕ → List ℕ
+grown_at None n held = held
+grown_at (Some i) n held = set held i (get_or held i 0 + n)
 
 -- "Data in a run": the pixels that its bytes complete, unless the window is inverted, and the record that is current; 02, Q-3: those
 -- that vanish, by their outcome.
@@ -72,9 +68,9 @@ pixels_sent bytes k y =
 
 -- "Data with a command and no run: bytes fill up to 14, the rest counted as dropped"; "With no run and no command in force data is lost
 -- and uncounted."
-abbrev pub rest_of : InForce → Params → List ℕ → ℕ
-rest_of InForce.Nothing p bytes = 0
-rest_of (Code c) p bytes = excess p (length bytes)
+abbrev pub rest_of : Option ℕ → Params → List ℕ → ℕ
+rest_of None p bytes = 0
+rest_of (Some c) p bytes = excess p (length bytes)
 
 abbrev pub params_sent : List ℕ → Controller → Tally → Tally
 params_sent bytes k y =

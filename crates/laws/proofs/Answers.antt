@@ -1,4 +1,5 @@
 -- What a transfer answers of its pixels: the counts grow by it, a cut adds up, and stored is the number of stores.
+use Rattle.std.specs.Prelude.{Option, Some, None}
 use Prim.Native.Nat.{ℕ}
 use mathlib.Core.Path.{◌≡◌, refl, sym, ap, ◌∙◌}
 use mathlib.Core.Bool.{Bool, true, false, cond}
@@ -12,8 +13,6 @@ use Rattle.pixels.proofs.Sums.{totals-cut, totals-counted}
 use Rattle.codes.specs.Codes.{command_of}
 use Rattle.chip.specs.Apply.{chip_taken}
 use Rattle.chip.specs.Site.{site_of, chip_stores, chip_totals}
-use Rattle.chip.specs.declared.InForce.{InForce}
-use Rattle.chip.specs.declared.InForce.TheVariants.{Code}
 use Rattle.chip.proofs.Cuts.{taken-run}
 use Rattle.status.specs.Numbers.{unless_refused}
 use Rattle.st7789.specs.Command.{begun, begun_all, controller_released, released}
@@ -54,8 +53,8 @@ data-answered bytes s =
       inverted = refl;
       unmapped = refl;
     })
-    (kept-answered s (data_by false InForce.Nothing bytes s) refl refl refl)
-    (λ c. kept-answered s (data_by false (Code c) bytes s) refl refl refl)
+    (kept-answered s (data_by false None bytes s) refl refl refl)
+    (λ c. kept-answered s (data_by false (Some c) bytes s) refl refl refl)
 
 moved-answered : (t : ℕ) (dc : Bool) (bytes : List ℕ) (cs : Bool) (s : St7789p3) → Answered (totals_in dc bytes s.controller) s (moved t dc bytes cs s)
 unfolding moved controller_released
@@ -116,10 +115,10 @@ answers-cut a b s = go s.controller.chip.decoder.in_pixels s.controller.chip.dec
     k = s.controller
 
     go :
-        (run : Bool) (f : InForce) → k.chip.decoder.in_pixels ≡ run →
+        (run : Bool) (f : Option ℕ) → k.chip.decoder.in_pixels ≡ run →
         by run (a ++ b) k ≡ added (by run a k) (totals_in true b (data_by run f a s).controller)
     go true f e =
         totals-cut (site_of k.cfg.formats k.chip) a b k.chip.walk
         ∙ ap (λ run. added (chip_totals k.cfg.formats k.chip a) (by run b (ran a k))) (sym e)
-    go false InForce.Nothing e = ap (λ run. added no_totals (by run b k)) (sym e)
-    go false (Code c) e = ap (λ run. added no_totals (by run b (taken c a k))) (sym (taken-run (command_of c) a k.chip ∙ e))
+    go false None e = ap (λ run. added no_totals (by run b k)) (sym e)
+    go false (Some c) e = ap (λ run. added no_totals (by run b (taken c a k))) (sym (taken-run (command_of c) a k.chip ∙ e))

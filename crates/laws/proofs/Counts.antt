@@ -1,5 +1,6 @@
 -- No counter runs over: a transfer of n bytes adds at most n to each, so after an accepted one none is above 2^63 + 65,536; and none is
 -- after a refused one, if none was before.
+use Rattle.std.specs.Prelude.{Option, Some, None}
 use Prim.Native.Nat.{ℕ, ◌+◌, ◌^◌, ◌≤◌, max}
 use mathlib.Core.Path.{◌≡◌, refl, ap}
 use mathlib.Core.Bool.{Bool, true, false, cond}
@@ -16,8 +17,6 @@ use Rattle.codes.specs.Codes.{kind_of, is}
 use Rattle.codes.specs.declared.Kind.TheVariants.{Ramwr}
 use Rattle.lists.specs.Fixed.{places}
 use Rattle.lists.specs.declared.TraceRecord.{TraceRecord}
-use Rattle.lists.specs.declared.Current.{Current}
-use Rattle.lists.specs.declared.Current.TheVariants.{Nothing, At}
 use Rattle.lists.proofs.Somes.{each-fails}
 use Rattle.status.specs.Tests.{high}
 use Rattle.st7789.specs.Command.{begun_record, begun, begun_all, controller_released, released}
@@ -117,20 +116,20 @@ all_grown t (c ∷ bytes) s g =
 
 -- Data: the current record grows by the length in a run, and keeps its pixel bytes otherwise.
 held_after :
-    (f : TraceRecord → TraceRecord) (k : Current) (l : List TraceRecord) (n : ℕ) → length l ≡ places → Placed k →
+    (f : TraceRecord → TraceRecord) (k : Option ℕ) (l : List TraceRecord) (n : ℕ) → length l ≡ places → Placed k →
     ((r : TraceRecord) → (f r).pixel_bytes ≤ r.pixel_bytes + n) → pixels_held k (on_current f k l) ≤ pixels_held k l + n
-held_after f Nothing l n long h grows = omega arith
-held_after f (At i) l n long h grows =
+held_after f None l n long h grows = omega arith
+held_after f (Some i) l n long h grows =
     let e : (get_or (set l i (f (get_or l i no_record))) i no_record).pixel_bytes ≡ (f (get_or l i no_record)).pixel_bytes =
     ap (λ r. r.pixel_bytes) (get_or-set_same l i (f (get_or l i no_record)) no_record (omega (arith, long, h)))
     in
     omega (arith, e, grows (get_or l i no_record))
 
 each_after :
-    (f : TraceRecord → TraceRecord) (k : Current) (l : List TraceRecord) (n : ℕ) → ((r : TraceRecord) → (f r).pixel_bytes ≤ r.pixel_bytes + n) →
+    (f : TraceRecord → TraceRecord) (k : Option ℕ) (l : List TraceRecord) (n : ℕ) → ((r : TraceRecord) → (f r).pixel_bytes ≤ r.pixel_bytes + n) →
     (i : ℕ) → (get_or (on_current f k l) i no_record).pixel_bytes ≤ max (get_or l i no_record).pixel_bytes (pixels_held k l + n)
-each_after f Nothing l n grows i = omega arith
-each_after f (At j) l n grows i = put-each l j (f (get_or l j no_record)) ((get_or l j no_record).pixel_bytes + n) (grows (get_or l j no_record)) i
+each_after f None l n grows i = omega arith
+each_after f (Some j) l n grows i = put-each l j (f (get_or l j no_record)) ((get_or l j no_record).pixel_bytes + n) (grows (get_or l j no_record)) i
 
 data-grown : (bytes : List ℕ) (s : St7789p3) → Good s → Grown (length bytes) s (data_in bytes s)
 unfolding ran taken

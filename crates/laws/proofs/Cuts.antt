@@ -1,4 +1,5 @@
 -- The cut law of the panel: a data segment in two parts leaves the panel that the whole leaves.
+use Rattle.std.specs.Prelude.{Option, Some, None}
 use Prim.Native.Nat.{ℕ, ◌+◌}
 use mathlib.Core.Path.{◌≡◌, refl, sym, ap, ap₂, ◌∙◌}
 use mathlib.Core.Bool.{Bool, true, false, cond}
@@ -19,8 +20,6 @@ use Rattle.lists.proofs.Cuts.{filled-cut, excess-cut}
 use Rattle.chip.specs.Apply.{chip_taken}
 use Rattle.chip.specs.Site.{site_of, chip_counted, chip_totals}
 use Rattle.chip.specs.declared.Chip.{Chip}
-use Rattle.chip.specs.declared.InForce.{InForce}
-use Rattle.chip.specs.declared.InForce.TheVariants.{Code}
 use Rattle.chip.proofs.Cuts.{chip-cut, taken-params, taken-cmd, taken-run}
 use Rattle.st7789.specs.Parts.{whole, with_chip, with_counts}
 use Rattle.st7789.specs.Data.{walk_over, walked_chip, pixels_added, ran, taken, data_in}
@@ -94,14 +93,14 @@ module _ (a b : List ℕ) (s : St7789p3) where
   stored-twice true i x y = sym (set-set s.stored i x y)
   stored-twice false i x y = refl
 
-  by-cut : (run : Bool) (f : InForce) → data_by run f (a ++ b) s ≡ data_by run f b (data_by run f a s)
+  by-cut : (run : Bool) (f : Option ℕ) → data_by run f (a ++ b) s ≡ data_by run f b (data_by run f a s)
   unfolding ran taken chip_taken
   by-cut true f =
       same-panel (ran-cut a b s.controller) refl (sym (pixels-twice a b s.controller.logs.current s.records)) refl
-  by-cut false InForce.Nothing =
+  by-cut false None =
       same-panel refl refl
       (sym (current-twice (λ r. r) (λ r. r) (λ r. r) (λ r. refl) s.controller.logs.current s.records)) refl
-  by-cut false (Code c) =
+  by-cut false (Some c) =
       let p = s.controller.chip.decoder.params in
       let q = (chip_taken (command_of c) a s.controller.chip).decoder.params in
       same-panel (taken-cut a b s.controller c)
@@ -117,11 +116,11 @@ module _ (a b : List ℕ) (s : St7789p3) where
   data-cut = go s.controller.chip.decoder.in_pixels s.controller.chip.decoder.cmd refl refl
     where
       go :
-          (run : Bool) (f : InForce) → s.controller.chip.decoder.in_pixels ≡ run → s.controller.chip.decoder.cmd ≡ f →
+          (run : Bool) (f : Option ℕ) → s.controller.chip.decoder.in_pixels ≡ run → s.controller.chip.decoder.cmd ≡ f →
           data_by run f (a ++ b) s ≡ data_in b (data_by run f a s)
       go true f e g = by-cut true f ∙ sym (data-by b (data_by true f a s) true f e g)
-      go false InForce.Nothing e g = by-cut false InForce.Nothing ∙ sym (data-by b (data_by false InForce.Nothing a s) false InForce.Nothing e g)
-      go false (Code c) e g =
-          by-cut false (Code c)
+      go false None e g = by-cut false None ∙ sym (data-by b (data_by false None a s) false None e g)
+      go false (Some c) e g =
+          by-cut false (Some c)
           ∙ sym
-          (data-by b (data_by false (Code c) a s) false (Code c) (taken-run (command_of c) a s.controller.chip ∙ e) (taken-cmd (command_of c) a s.controller.chip ∙ g))
+          (data-by b (data_by false (Some c) a s) false (Some c) (taken-run (command_of c) a s.controller.chip ∙ e) (taken-cmd (command_of c) a s.controller.chip ∙ g))

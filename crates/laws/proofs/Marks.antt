@@ -1,12 +1,11 @@
 -- The rows to copy: a transfer does not read them, and marks the rows of what it stores.
+use Rattle.std.specs.Prelude.{Option, Some, None}
 use Prim.Native.Nat.{ℕ}
 use mathlib.Core.Path.{◌≡◌, refl, sym, ap, ◌∙◌}
 use mathlib.Core.Bool.{Bool, true, false, cond}
 use mathlib.Core.List.{List, [], ◌∷◌}
 use Rattle.marks.specs.Rows.{no_rows}
 use Rattle.pixels.specs.Run.{marked}
-use Rattle.chip.specs.declared.InForce.{InForce}
-use Rattle.chip.specs.declared.InForce.TheVariants.{Code}
 use Rattle.st7789.specs.Parts.{with_controller, with_marks}
 use Rattle.st7789.specs.Command.{begun, begun_all, controller_released, released}
 use Rattle.st7789.specs.Data.{ran, taken, data_in, stores_in}
@@ -28,10 +27,10 @@ pub data-unmarked : (bytes : List ℕ) (s : St7789p3) → unmarked (data_in byte
 unfolding data_in ran taken
 data-unmarked bytes s = go s.controller.chip.decoder.in_pixels s.controller.chip.decoder.cmd
   where
-    go : (run : Bool) (f : InForce) → unmarked (data_by run f bytes s) ≡ unmarked (data_by run f bytes (unmarked s))
+    go : (run : Bool) (f : Option ℕ) → unmarked (data_by run f bytes s) ≡ unmarked (data_by run f bytes (unmarked s))
     go true f = refl
-    go false InForce.Nothing = refl
-    go false (Code c) = refl
+    go false None = refl
+    go false (Some c) = refl
 
 pub release-unmarked : (cs : Bool) (s r : St7789p3) → unmarked s ≡ unmarked r → unmarked (cond cs (released s) s) ≡ unmarked (cond cs (released r) r)
 unfolding controller_released

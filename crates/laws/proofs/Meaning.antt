@@ -1,4 +1,5 @@
 -- What the lists mean: the used part after a command, and after data for it.
+use Rattle.std.specs.Prelude.{Some}
 use Prim.Native.Nat.{ℕ, ◌≤◌, ◌<◌}
 use mathlib.Core.Path.{◌≡◌, refl, ap, ap₂, ◌∙◌}
 use mathlib.Core.List.{List, [], ◌∷◌, ◌++◌}
@@ -7,7 +8,6 @@ use lib.ListN.{length, take, set, get_or}
 use lib.Seq.{take-set-lt}
 use native.Mathlib.Omega.{arith}
 use Rattle.lists.specs.Fixed.{places, used}
-use Rattle.lists.specs.declared.Current.TheVariants.{At}
 use Rattle.lists.proofs.Fixed.{used_all}
 use Rattle.st7789.specs.Parts.{trace_of, warnings_of}
 use Rattle.st7789.specs.Command.{warnings_for, linted, begun_record, begun}
@@ -37,7 +37,7 @@ module _ (s : St7789p3) where
 
   -- Data changes the current record and no other.
   pub current-means :
-      (bytes : List ℕ) (i : ℕ) → s.controller.logs.current ≡ At i → i < s.controller.logs.traced →
+      (bytes : List ℕ) (i : ℕ) → s.controller.logs.current ≡ Some i → i < s.controller.logs.traced →
       used (trace_of (data_in bytes s)) ≡ set (used (trace_of s)) i (record_data bytes s.controller (get_or s.records i no_record))
   unfolding data_in ran taken
   current-means bytes i e h =

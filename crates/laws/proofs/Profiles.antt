@@ -1,5 +1,6 @@
 -- Two panels, one of them under plain, given the same: everything but the warnings and the profile stays equal, and so do the warnings of
 -- rules 1 to 3 while the other's list is not full.
+use Rattle.std.specs.Prelude.{Option, Some, None}
 use Prim.Native.Nat.{ℕ, ◌+◌, ◌-◌, ◌≤◌, ◌<◌, min}
 use mathlib.Core.Path.{◌≡◌, refl, sym, ap, ap₂, ◌∙◌}
 use mathlib.Core.Bool.{Bool, true, false, cond}
@@ -12,14 +13,11 @@ use lib.Seq.{take_all}
 use Rattle.codes.specs.Codes.{kind_of}
 use Rattle.lists.specs.Fixed.{places, used}
 use Rattle.lists.specs.declared.Warning.{Warning}
-use Rattle.lists.specs.declared.Current.{Current}
 use Rattle.lists.proofs.Fixed.{count-all}
 use Rattle.timing.specs.Lint.{breaks1, breaks2, breaks3, breaks4, broken_by, only}
 use Rattle.board.specs.Board.{strict_set}
 use Rattle.board.specs.declared.PanelConfig.{PanelConfig}
 use Rattle.pixels.specs.Run.{written, no_totals}
-use Rattle.chip.specs.declared.InForce.{InForce}
-use Rattle.chip.specs.declared.InForce.TheVariants.{Code}
 use Rattle.status.specs.Numbers.{unless_refused}
 use Rattle.status.specs.Tests.{first, transfer_row}
 use Rattle.status.proofs.Unless.{unless-either}
@@ -45,7 +43,7 @@ use Rattle.laws.proofs.Stays.{warned-by, begun-good, moved-good}
 
 -- Neither warnings nor profile is read by what goes on after the lint.
 logs-alike :
-    (traced : ℕ) (current : Current) (n m : ℕ) →
+    (traced : ℕ) (current : Option ℕ) (n m : ℕ) →
     ◌≡◌ {A = Logs}
     (record {
       traced = (logs_begun (record { traced = traced; warned = n; current = current })).traced;
@@ -60,7 +58,7 @@ logs-alike :
 logs-alike traced current n m = go (ltb traced places)
   where
     by : ℕ → Bool → Logs
-    by w b = cond b (record { traced = traced + 1; warned = w; current = Current.At traced }) (record { traced = traced; warned = w; current = Current.Nothing })
+    by w b = cond b (record { traced = traced + 1; warned = w; current = Some traced }) (record { traced = traced; warned = w; current = None })
 
     go :
         (b : Bool) →
@@ -93,10 +91,10 @@ data-unwarned : (bytes : List ℕ) (s : St7789p3) → unwarned (data_in bytes s)
 unfolding data_in ran taken
 data-unwarned bytes s = go s.controller.chip.decoder.in_pixels s.controller.chip.decoder.cmd
   where
-    go : (run : Bool) (f : InForce) → unwarned (data_by run f bytes s) ≡ unwarned (data_by run f bytes (unwarned s))
+    go : (run : Bool) (f : Option ℕ) → unwarned (data_by run f bytes s) ≡ unwarned (data_by run f bytes (unwarned s))
     go true f = refl
-    go false InForce.Nothing = refl
-    go false (Code c) = refl
+    go false None = refl
+    go false (Some c) = refl
 
 release-unwarned : (cs : Bool) (s r : St7789p3) → unwarned s ≡ unwarned r → unwarned (cond cs (released s) s) ≡ unwarned (cond cs (released r) r)
 unfolding controller_released

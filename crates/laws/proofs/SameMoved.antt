@@ -1,9 +1,9 @@
 -- What a transfer leaves of a good state, told by its content alone; so same states stay the same.
+use Rattle.std.specs.Prelude.{Some, None, Option}
 use Prim.Native.Nat.{ℕ, ◌+◌, ◌≤◌, ◌<◌}
 use mathlib.Core.Path.{◌≡◌, refl, sym, ap, ◌∙◌}
 use mathlib.Core.Bool.{Bool, true, false, cond}
 use mathlib.Core.List.{List, [], ◌∷◌, ◌++◌, map, foldl, map-append}
-use mathlib.Core.Option.{Option}
 use borrow.Author.Tests.{ltb-false, eqb-true}
 use lib.Dec.{eqb}
 use lib.ListN.{length, take, set}
@@ -17,12 +17,11 @@ use Rattle.lists.specs.Params.{fixed, no_params, filled, excess}
 use Rattle.lists.specs.declared.Params.{Params}
 use Rattle.lists.specs.declared.Warning.{Warning}
 use Rattle.lists.proofs.Fixed.{count-all}
-use Rattle.lists.proofs.Maps.{map-take, map-set}
+use Rattle.std.proofs.lemmas.List.{map-set}
+use Rattle.lists.proofs.Maps.{map-take}
 use Rattle.chip.specs.Begin.{chip_begun, chip_released}
 use Rattle.chip.specs.Apply.{due, byte_at, chip_filled, chip_applied, applied_if_due, chip_taken}
 use Rattle.chip.specs.declared.Chip.{Chip}
-use Rattle.chip.specs.declared.InForce.{InForce}
-use Rattle.chip.specs.declared.InForce.TheVariants.{Code}
 use Rattle.chip.proofs.Cuts.{due-enough, window-agrees, registers-agree, taken-params}
 use Rattle.st7789.specs.Parts.{trace_of, warnings_of, with_chip, with_counts, with_logs}
 use Rattle.st7789.specs.Command.{warnings_for, begun_record, controller_begun, begun, begun_all, controller_released, released}
@@ -127,7 +126,7 @@ abbrev more_listed : List ℕ → Entry → Entry
 more_listed bytes x = record { cmd = x.cmd; at = x.at; pixels = x.pixels; params = pushed_in 14 bytes x.params }
 
 -- Data, by its kind.
-abbrev data_in' : Bool → InForce → List ℕ → Content → Content
+abbrev data_in' : Bool → Option ℕ → List ℕ → Content → Content
 data_in' true f bytes v =
     record {
       fields = ran bytes v.fields;
@@ -136,7 +135,7 @@ data_in' true f bytes v =
       trace = on_entry (more_bytes (length bytes)) v.fields.logs.current v.trace;
       warnings = v.warnings;
     }
-data_in' false InForce.Nothing bytes v =
+data_in' false None bytes v =
     record {
       fields = v.fields;
       params = v.params;
@@ -144,7 +143,7 @@ data_in' false InForce.Nothing bytes v =
       trace = on_entry (λ x. x) v.fields.logs.current v.trace;
       warnings = v.warnings;
     }
-data_in' false (Code c) bytes v =
+data_in' false (Some c) bytes v =
     let u : InUse ℕ = pushed_in 14 bytes v.params in
     record {
       fields =
@@ -152,12 +151,12 @@ data_in' false (Code c) bytes v =
           (with_counts (dropped_added (excess v.fields.chip.decoder.params (length bytes)) v.fields.counts)
           (with_chip (applied_if_due (command_of c) (with_params (params_of u) v.fields.chip)) v.fields));
       params = u;
-      stored = cond (is_stored (kind_of c)) (set v.stored (place_of (kind_of c)) (Option.some u)) v.stored;
+      stored = cond (is_stored (kind_of c)) (set v.stored (place_of (kind_of c)) (Some u)) v.stored;
       trace = on_entry (more_listed bytes) v.fields.logs.current v.trace;
       warnings = v.warnings;
     }
 
-data-content : (run : Bool) (f : InForce) (bytes : List ℕ) (s : St7789p3) → Fine s → content (data_by run f bytes s) ≡ data_in' run f bytes (content s)
+data-content : (run : Bool) (f : Option ℕ) (bytes : List ℕ) (s : St7789p3) → Fine s → content (data_by run f bytes s) ≡ data_in' run f bytes (content s)
 unfolding ran taken chip_taken
 data-content true f bytes s g = λ i.
     record {
@@ -169,7 +168,7 @@ data-content true f bytes s g = λ i.
           s.controller.chip.decoder.params (lined s g) i;
       warnings = used (warnings_of s);
     }
-data-content false InForce.Nothing bytes s g = λ i.
+data-content false None bytes s g = λ i.
     record {
       fields = fields_of s.controller;
       params = in_use (fixed s.controller.chip.decoder.params);
@@ -179,7 +178,7 @@ data-content false InForce.Nothing bytes s g = λ i.
           s.controller.chip.decoder.params (lined s g) i;
       warnings = used (warnings_of s);
     }
-data-content false (Code c) bytes s g = λ i.
+data-content false (Some c) bytes s g = λ i.
     record {
       fields =
           with_counts (dropped_added (excess p (length bytes)) k.counts)
@@ -206,10 +205,10 @@ data-content false (Code c) bytes s g = λ i.
     stored-told :
         (b : Bool) →
         map stored_content (cond b (set s.stored (place_of (kind_of c)) (record { present = true; params = filled p bytes })) s.stored) ≡
-        cond b (set (map stored_content s.stored) (place_of (kind_of c)) (Option.some (pushed_in 14 bytes (in_use (fixed p))))) (map stored_content s.stored)
+        cond b (set (map stored_content s.stored) (place_of (kind_of c)) (Some (pushed_in 14 bytes (in_use (fixed p))))) (map stored_content s.stored)
     stored-told true =
         map-set stored_content s.stored (place_of (kind_of c)) (record { present = true; params = filled p bytes })
-        ∙ ap (λ (u : InUse ℕ). set (map stored_content s.stored) (place_of (kind_of c)) (Option.some u)) filled-told
+        ∙ ap (λ (u : InUse ℕ). set (map stored_content s.stored) (place_of (kind_of c)) (Some u)) filled-told
     stored-told false = refl
 
 -- The CS release.

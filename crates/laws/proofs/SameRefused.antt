@@ -1,9 +1,9 @@
 -- Same states are refused alike: the content tells the number.
+use Rattle.std.specs.Prelude.{Some, None, Option}
 use Prim.Native.Nat.{ℕ, ◌+◌, ◌<◌}
 use mathlib.Core.Path.{◌≡◌, refl, sym, ap, ◌∙◌}
 use mathlib.Core.Bool.{Bool, true, false, cond, not, ◌&&◌, ◌||◌}
 use mathlib.Core.List.{List, map}
-use mathlib.Core.Option.{Option}
 use native.Mathlib.Omega.{arith}
 use borrow.Author.Tests.{eqb-true, not-false}
 use lib.Dec.{eqb, ltb}
@@ -14,9 +14,7 @@ use Rattle.lists.specs.Entries.{some, stored_long, record_long}
 use Rattle.lists.specs.declared.Params.{Params}
 use Rattle.lists.specs.declared.Stored.{Stored}
 use Rattle.lists.specs.declared.TraceRecord.{TraceRecord}
-use Rattle.lists.specs.declared.Current.{Current}
-use Rattle.lists.specs.declared.Current.TheVariants.{Nothing, At}
-use Rattle.lists.proofs.Bools.{neither}
+use Rattle.std.proofs.lemmas.Bool.{or_parts}
 use Rattle.lists.proofs.Maps.{some-told}
 use Rattle.status.specs.Tests.{first, transfer_row}
 use Rattle.st7789.specs.Parts.{trace_of}
@@ -30,30 +28,30 @@ use Rattle.laws.proofs.Contents.{no_entry, entry_at}
 
 -- The clauses of BAD_STATE that look into a list.
 abbrev long_in : Option (InUse ℕ) → Bool
-long_in Option.none = false
-long_in (Option.some u) = ltb 14 u.count
+long_in None = false
+long_in (Some u) = ltb 14 u.count
 
 abbrev entry_long : Entry → Bool
 entry_long x = ltb 14 x.params.count
 
-abbrev current_in : Current → ℕ → List Entry → InUse ℕ → Bool
-current_in Nothing n es u = false
-current_in (At i) n es u =
+abbrev current_in : Option ℕ → ℕ → List Entry → InUse ℕ → Bool
+current_in None n es u = false
+current_in (Some i) n es u =
     not (eqb (i + 1) n)
     || (not (eqb (get_or es i no_entry).params.count u.count) || not (same_numbers (get_or es i no_entry).params.part u.part))
 
 stored-told : (e : Stored) → stored_long e ≡ long_in (stored_content e)
 stored-told e = go e.present
   where
-    go : (b : Bool) → b && too_long e.params ≡ long_in (cond b (Option.some (in_use (fixed e.params))) Option.none)
+    go : (b : Bool) → b && too_long e.params ≡ long_in (cond b (Some (in_use (fixed e.params))) None)
     go true = refl
     go false = refl
 
 current-told :
-    (k : Current) (t : Fixed TraceRecord) (p : Params) → current_bad k t p ≡ current_in k t.count (map entry (used t)) (in_use (fixed p))
+    (k : Option ℕ) (t : Fixed TraceRecord) (p : Params) → current_bad k t p ≡ current_in k t.count (map entry (used t)) (in_use (fixed p))
 unfolding differ
-current-told Nothing t p = refl
-current-told (At i) t p = by-test (eqb (i + 1) t.count) refl
+current-told None t p = refl
+current-told (Some i) t p = by-test (eqb (i + 1) t.count) refl
   where
     by-entry : Bool → Entry → Bool
     by-entry b x =
@@ -86,15 +84,15 @@ pub bad-same : (s r : St7789p3) → Same s r → bad_state s ≡ bad_state r
 bad-same s r e = bad-told s ∙ ap bad_in e ∙ sym (bad-told r)
 
 -- The pixel bytes that COUNT_HIGH looks at.
-abbrev held_in : Current → List Entry → ℕ
-held_in Nothing es = 0
-held_in (At i) es = (get_or es i no_entry).pixels
+abbrev held_in : Option ℕ → List Entry → ℕ
+held_in None es = 0
+held_in (Some i) es = (get_or es i no_entry).pixels
 
 held-told :
-    (k : Current) (t : Fixed TraceRecord) (p : Params) → current_bad k t p ≡ false → pixels_held k t.places ≡ held_in k (map entry (used t))
-held-told Nothing t p e = refl
-held-told (At i) t p e =
-    let last : i + 1 ≡ t.count = eqb-true (i + 1) t.count (not-false (eqb (i + 1) t.count) (neither _ _ e).0) in
+    (k : Option ℕ) (t : Fixed TraceRecord) (p : Params) → current_bad k t p ≡ false → pixels_held k t.places ≡ held_in k (map entry (used t))
+held-told None t p e = refl
+held-told (Some i) t p e =
+    let last : i + 1 ≡ t.count = eqb-true (i + 1) t.count (not-false (eqb (i + 1) t.count) (or_parts _ _ e).0) in
     let h : i < t.count = omega (arith, last) in
     ap (λ (x : Entry). x.pixels) (sym (entry_at t i h))
 

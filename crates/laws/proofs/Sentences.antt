@@ -1,4 +1,5 @@
 -- Sentences of 01 that say what does not happen, those of Q-14 on the reset's time, and what a reset leaves of Q-3's counts, each as a law.
+use Rattle.std.specs.Prelude.{Some, None}
 use Prim.Native.Nat.{ℕ}
 use mathlib.Core.Path.{◌≡◌, refl}
 use mathlib.Core.Bool.{Bool, true, false}
@@ -7,9 +8,8 @@ use lib.Dec.{eqb}
 use Rattle.codes.specs.Codes.{kind_of, need_of}
 use Rattle.codes.proofs.Bytes.{is-swreset, is-slpin, is-slpout, is-invoff, is-invon, is-dispoff, is-dispon}
 use Rattle.lists.specs.Entries.{some}
-use Rattle.lists.proofs.Bools.{neither}
+use Rattle.std.proofs.lemmas.Bool.{or_parts}
 use Rattle.timing.specs.Lint.{times_after}
-use Rattle.timing.specs.declared.Moment.{Moment}
 use Rattle.chip.specs.Begin.{fresh_chip, effects, chip_released}
 use Rattle.chip.specs.declared.Chip.{Chip}
 use Rattle.st7789.specs.Command.{begun, controller_released, released}
@@ -30,13 +30,13 @@ pub others-idle :
     (c t : ℕ) (s : Chip) → some (eqb c) (0x01 ∷ 0x10 ∷ 0x11 ∷ 0x20 ∷ 0x21 ∷ 0x28 ∷ 0x29 ∷ []) ≡ false → effects (kind_of c) t s ≡ s
 unfolding times_after
 others-idle c t s e =
-    let a = neither (eqb c 0x01) _ e in
-    let b = neither (eqb c 0x10) _ a.1 in
-    let d = neither (eqb c 0x11) _ b.1 in
-    let f = neither (eqb c 0x20) _ d.1 in
-    let g = neither (eqb c 0x21) _ f.1 in
-    let h = neither (eqb c 0x28) _ g.1 in
-    let k = neither (eqb c 0x29) _ h.1 in
+    let a = or_parts (eqb c 0x01) _ e in
+    let b = or_parts (eqb c 0x10) _ a.1 in
+    let d = or_parts (eqb c 0x11) _ b.1 in
+    let f = or_parts (eqb c 0x20) _ d.1 in
+    let g = or_parts (eqb c 0x21) _ f.1 in
+    let h = or_parts (eqb c 0x28) _ g.1 in
+    let k = or_parts (eqb c 0x29) _ h.1 in
     rw (is-swreset c, is-slpin c, is-slpout c, is-invoff c, is-invon c, is-dispoff c, is-dispon c, a.0, b.0, d.0, f.0, g.0, h.0, k.0)
 
 pub swreset-keeps : (t : ℕ) (s : St7789p3) → ResetKeeps s (begun 0x01 t s)
@@ -59,7 +59,7 @@ swreset-keeps t s =
     }
 
 -- Q-14: "The reset's time joins the state; a board-rail reset forgets it." Other commands keep it, and so does a CS release.
-pub swreset-timed : (t : ℕ) (s : St7789p3) → (begun 0x01 t s).controller.chip.times.swreset ≡ Moment.At t
+pub swreset-timed : (t : ℕ) (s : St7789p3) → (begun 0x01 t s).controller.chip.times.swreset ≡ Some t
 unfolding begun times_after kind_of need_of
 swreset-timed t s = refl
 
@@ -71,7 +71,7 @@ pub release-remembers : (s : St7789p3) → (released s).controller.chip.times.sw
 unfolding controller_released chip_released
 release-remembers s = refl
 
-pub rail-forgets : (s : St7789p3) → (rail_reset true s).controller.chip.times.swreset ≡ Moment.Never
+pub rail-forgets : (s : St7789p3) → (rail_reset true s).controller.chip.times.swreset ≡ None
 unfolding empty_lists fresh_controller fresh_chip
 rail-forgets s = refl
 

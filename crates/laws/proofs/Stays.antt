@@ -1,4 +1,5 @@
 -- From a good state every accepted call leaves a good state, so BAD_STATE never arises from a fresh panel.
+use Rattle.std.specs.Prelude.{Option, Some, None}
 use Prim.Native.Nat.{ℕ, ◌+◌, ◌≤◌}
 use mathlib.Core.Path.{◌≡◌, refl, sym, ap, ◌∙◌}
 use mathlib.Core.Bool.{Bool, true, false, cond, true≢false}
@@ -22,7 +23,6 @@ use Rattle.lists.specs.Entries.{some, stored_long}
 use Rattle.lists.specs.declared.Params.{Params}
 use Rattle.lists.specs.declared.Stored.{Stored}
 use Rattle.lists.specs.declared.TraceRecord.{TraceRecord}
-use Rattle.lists.specs.declared.Current.TheVariants.{Nothing, At}
 use Rattle.lists.proofs.Somes.{none-set}
 use Rattle.lists.proofs.Fixed.{count-all, places-all}
 use Rattle.lists.proofs.Filling.{count-filled, length-filled}
@@ -30,8 +30,6 @@ use Rattle.lists.proofs.Alike.{params_same, filled-alike}
 use Rattle.chip.specs.Begin.{chip_begun, chip_released}
 use Rattle.chip.specs.Apply.{chip_taken}
 use Rattle.chip.specs.declared.Chip.{Chip}
-use Rattle.chip.specs.declared.InForce.{InForce}
-use Rattle.chip.specs.declared.InForce.TheVariants.{Code}
 use Rattle.chip.proofs.Bounds.{ChipWithin, begun-within, released-within, taken-within}
 use Rattle.chip.proofs.Cuts.{taken-params}
 use Rattle.chip.proofs.Stays.{begun-waits, begun-idle, taken-walk}
@@ -117,8 +115,8 @@ no-params-same = params_same no_params no_params refl refl
 module _ (c t : ℕ) (s : St7789p3) where
   abbrev pub logs_by : Bool → Logs
   logs_by b =
-      cond b (record { traced = s.controller.logs.traced + 1; warned = (linted c t s).count; current = At s.controller.logs.traced })
-      (record { traced = s.controller.logs.traced; warned = (linted c t s).count; current = Nothing })
+      cond b (record { traced = s.controller.logs.traced + 1; warned = (linted c t s).count; current = Some s.controller.logs.traced })
+      (record { traced = s.controller.logs.traced; warned = (linted c t s).count; current = None })
 
   abbrev pub trace_by : Bool → Fixed TraceRecord
   trace_by b =
@@ -244,17 +242,17 @@ data-waiting bytes s g =
     formats : Bool
     formats = s.controller.cfg.formats
 
-    in-run : (f : InForce) → chip.decoder.in_pixels ≡ true → Waiting (data_by true f bytes s)
+    in-run : (f : Option ℕ) → chip.decoder.in_pixels ≡ true → Waiting (data_by true f bytes s)
     in-run f on =
         record {
           waits = carry-good (format_in formats chip) chip.walk.carry bytes (clause s g.fine 9);
           quiet = λ off. absurd (true≢false (sym on ∙ off));
         }
 
-    lost : chip.decoder.in_pixels ≡ false → Waiting (data_by false InForce.Nothing bytes s)
+    lost : chip.decoder.in_pixels ≡ false → Waiting (data_by false None bytes s)
     lost off = record { waits = clause s g.fine 9; quiet = g.quiet }
 
-    for-command : (c : ℕ) → chip.decoder.in_pixels ≡ false → Waiting (data_by false (Code c) bytes s)
+    for-command : (c : ℕ) → chip.decoder.in_pixels ≡ false → Waiting (data_by false (Some c) bytes s)
     for-command c off =
         let few : carry_bad HighFirst (chip_taken (command_of c) bytes chip).walk.carry ≡ false =
         ap (λ (w : Walk). carry_bad HighFirst w.carry) (taken-walk (command_of c) bytes chip) ∙ g.quiet off in

@@ -1,4 +1,5 @@
 -- What is done to a list, told by its content alone: entries pushed onto it, and the current record changed.
+use Rattle.std.specs.Prelude.{Option, Some, None}
 use Prim.Native.Nat.{ℕ, ◌+◌, ◌-◌, ◌≤◌, ◌<◌, min}
 use mathlib.Core.Path.{◌≡◌, refl, sym, ap, ◌∙◌}
 use mathlib.Core.Bool.{false}
@@ -11,11 +12,9 @@ use Rattle.lists.specs.Params.{fixed, filled}
 use Rattle.lists.specs.Entries.{record_long}
 use Rattle.lists.specs.declared.Params.{Params}
 use Rattle.lists.specs.declared.TraceRecord.{TraceRecord}
-use Rattle.lists.specs.declared.Current.{Current}
-use Rattle.lists.specs.declared.Current.TheVariants.{Nothing, At}
 use Rattle.lists.proofs.Fixed.{used_all, count-all}
 use Rattle.lists.proofs.Filling.{filled-all}
-use Rattle.lists.proofs.Maps.{map-set}
+use Rattle.std.proofs.lemmas.List.{map-set}
 use Rattle.st7789.specs.Data.{no_record, on_current}
 use Rattle.laws.specs.Same.{InUse, in_use, Entry, entry}
 use Rattle.laws.proofs.Traces.{Lined, lasting}
@@ -37,17 +36,17 @@ filled-content p bytes few long =
     ap (λ q. in_use (fixed q)) (filled-all p bytes) ∙ pushed-content 14 (fixed p) bytes few (omega arith)
 
 -- The current record changed.
-abbrev pub on_entry : (Entry → Entry) → Current → List Entry → List Entry
-on_entry g Nothing es = es
-on_entry g (At i) es = set es i (g (get_or es i no_entry))
+abbrev pub on_entry : (Entry → Entry) → Option ℕ → List Entry → List Entry
+on_entry g None es = es
+on_entry g (Some i) es = set es i (g (get_or es i no_entry))
 
 pub current-content :
     (f : TraceRecord → TraceRecord) (g : Entry → Entry) →
     ((x : TraceRecord) → record_long x ≡ false → length x.params.bytes ≡ 14 → entry (f x) ≡ g (entry x)) →
-    (k : Current) (t : Fixed TraceRecord) (p : Params) → Lined k t p →
+    (k : Option ℕ) (t : Fixed TraceRecord) (p : Params) → Lined k t p →
     map entry (take t.count (on_current f k t.places)) ≡ on_entry g k (map entry (used t))
-current-content f g e Nothing t p v = refl
-current-content f g e (At i) t p v =
+current-content f g e None t p v = refl
+current-content f g e (Some i) t p v =
     let n = t.count in
     let l = t.places in
     let r = get_or l i no_record in

@@ -1,4 +1,5 @@
 -- What a data segment stores: its two parts store what the whole stores, and every store lies in the panel.
+use Rattle.std.specs.Prelude.{Option, Some, None}
 use Prim.Native.Nat.{ℕ, ◌<◌}
 use mathlib.Core.Path.{◌≡◌, refl, sym, ap, ◌∙◌}
 use mathlib.Core.Bool.{Bool, true, false, cond, ◌&&◌}
@@ -10,8 +11,6 @@ use Rattle.pixels.proofs.Stores.{stores-below}
 use Rattle.codes.specs.Codes.{command_of}
 use Rattle.chip.specs.Apply.{chip_taken}
 use Rattle.chip.specs.Site.{site_of, chip_stores}
-use Rattle.chip.specs.declared.InForce.{InForce}
-use Rattle.chip.specs.declared.InForce.TheVariants.{Code}
 use Rattle.chip.proofs.Cuts.{taken-run}
 use Rattle.st7789.specs.Data.{ran, taken, taken_for, controller_data, stores_in}
 use Rattle.st7789.specs.declared.Controller.{Controller}
@@ -28,13 +27,13 @@ unfolding ran taken chip_taken
 stores_both a b k = go k.chip.decoder.in_pixels k.chip.decoder.cmd refl
   where
     go :
-        (run : Bool) (f : InForce) → k.chip.decoder.in_pixels ≡ run →
+        (run : Bool) (f : Option ℕ) → k.chip.decoder.in_pixels ≡ run →
         stores_by run (a ++ b) k ≡ stores_by run a k ++ stores_in true b (cond run (ran a k) (taken_for f a k))
     go true f e =
         stores-cut (site_of k.cfg.formats k.chip) a b k.chip.walk
         ∙ ap (λ l. stores_by true a k ++ l) (sym (stores-by b (ran a k) true e))
-    go false InForce.Nothing e = sym (stores-by b k false e)
-    go false (Code c) e = sym (stores-by b (taken c a k) false (taken-run (command_of c) a k.chip ∙ e))
+    go false None e = sym (stores-by b k false e)
+    go false (Some c) e = sym (stores-by b (taken c a k) false (taken-run (command_of c) a k.chip ∙ e))
 
 pub in-panel : (dc : Bool) (bytes : List ℕ) (k : Controller) (x : Store) → Memᴰ x (stores_in dc bytes k) → x.index < 76800
 in-panel dc bytes k x = go (dc && k.chip.decoder.in_pixels)

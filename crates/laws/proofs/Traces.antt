@@ -1,4 +1,5 @@
 -- The trace in a good state: no used record is too long, and the current one is the last used, with the parameters in force.
+use Rattle.std.specs.Prelude.{Option, Some, None}
 use Prim.Native.Nat.{ℕ, ◌+◌, ◌≤◌, ◌<◌}
 use mathlib.Core.Path.{◌≡◌, refl, ap, ◌∙◌}
 use mathlib.Core.Bool.{Bool, true, false, not}
@@ -14,9 +15,7 @@ use Rattle.lists.specs.Params.{differ}
 use Rattle.lists.specs.Entries.{some, record_long}
 use Rattle.lists.specs.declared.Params.{Params}
 use Rattle.lists.specs.declared.TraceRecord.{TraceRecord}
-use Rattle.lists.specs.declared.Current.{Current}
-use Rattle.lists.specs.declared.Current.TheVariants.{Nothing, At}
-use Rattle.lists.proofs.Bools.{neither}
+use Rattle.std.proofs.lemmas.Bool.{or_parts}
 use Rattle.lists.proofs.Somes.{each-fails, none-append, none-set}
 use Rattle.st7789.specs.Data.{no_record, on_current}
 use Rattle.st7789.specs.Refusals.{count_bad, current_bad}
@@ -37,22 +36,22 @@ roomy-set l k r long fits roomy i h = go (eqb i k) refl
     go false e = ap (λ x. length x.params.bytes) (get_or-set_other l k i r no_record (eqb-false i k e)) ∙ roomy i h
 
 -- A trace with its current record that is as a good state has it beside the parameters p in force.
-pub record Lined (k : Current) (f : Fixed TraceRecord) (p : Params) : Type 0 where
+pub record Lined (k : Option ℕ) (f : Fixed TraceRecord) (p : Params) : Type 0 where
   pub long : length f.places ≡ places
   pub roomy : Roomy f.places
   pub short : some record_long (used f) ≡ false
   pub few : count_bad f.count ≡ false
   pub current : current_bad k f p ≡ false
 
-module _ {k : Current} {f : Fixed TraceRecord} {p : Params} (v : Lined k f p) where
+module _ {k : Option ℕ} {f : Fixed TraceRecord} {p : Params} (v : Lined k f p) where
   -- No record is current.
-  pub unwatched : (q : Params) → Lined Nothing f q
+  pub unwatched : (q : Params) → Lined None f q
   unwatched q = record { long = v.long; roomy = v.roomy; short = v.short; few = v.few; current = refl }
 
   -- One record more, which is the current one.
   pub pushed :
       (r : TraceRecord) (q : Params) → f.count < places → record_long r ≡ false → length r.params.bytes ≡ 14 → differ r.params q ≡ false →
-      Lined (At f.count) (record { count = f.count + 1; places = set f.places f.count r }) q
+      Lined (Some f.count) (record { count = f.count + 1; places = set f.places f.count r }) q
   pushed r q free e fits d =
       let n = f.count in
       let l = f.places in
@@ -72,11 +71,11 @@ pub record Lasting (f : Fixed TraceRecord) (p : Params) (i : ℕ) : Type 0 where
   pub room : length (get_or f.places i no_record).params.bytes ≡ 14
   pub alike : differ (get_or f.places i no_record).params p ≡ false
 
-pub lasting : {f : Fixed TraceRecord} {p : Params} {i : ℕ} → Lined (At i) f p → Lasting f p i
+pub lasting : {f : Fixed TraceRecord} {p : Params} {i : ℕ} → Lined (Some i) f p → Lasting f p i
 lasting {f} {p} {i} v =
     let n = f.count in
     let l = f.places in
-    let t = neither (not (eqb (i + 1) n)) (differ (get_or l i no_record).params p) v.current in
+    let t = or_parts (not (eqb (i + 1) n)) (differ (get_or l i no_record).params p) v.current in
     let last : i + 1 ≡ n = eqb-true (i + 1) n (not-false (eqb (i + 1) n) t.0) in
     let h : i < n = omega (arith, last) in
     let b : n ≤ places = ltb-false places n v.few in
@@ -95,9 +94,9 @@ module _
     (goes : (r : TraceRecord) → record_long r ≡ false → length r.params.bytes ≡ 14 → differ r.params p ≡ false → differ (g r).params q ≡ false)
     (fits : (r : TraceRecord) → length r.params.bytes ≡ 14 → length (g r).params.bytes ≡ 14)
   where
-    pub changed : (k : Current) → Lined k f p → Lined k (record { count = f.count; places = on_current g k f.places }) q
-    changed Nothing v = unwatched v q
-    changed (At i) v =
+    pub changed : (k : Option ℕ) → Lined k f p → Lined k (record { count = f.count; places = on_current g k f.places }) q
+    changed None v = unwatched v q
+    changed (Some i) v =
         let n = f.count in
         let l = f.places in
         let r = get_or l i no_record in

@@ -7,13 +7,13 @@ use Rattle.geometry.specs.Bounds.{window_bad, pointer_bad}
 use Rattle.geometry.specs.declared.Window.{Window}
 use Rattle.geometry.specs.declared.Pointer.{Pointer}
 use Rattle.geometry.proofs.Bounds.{WindowWithin, PointerWithin}
-use Rattle.lists.proofs.Bools.{neither}
+use Rattle.std.proofs.lemmas.Bool.{or_parts}
 
 pub window-within : (w : Window) → window_bad w ≡ false → WindowWithin w
 window-within w e =
-    let t = neither (ltb 319 w.xs) _ e in
-    let u = neither (ltb 319 w.xe) _ t.1 in
-    let v = neither (ltb 319 w.ys) _ u.1 in
+    let t = or_parts (ltb 319 w.xs) _ e in
+    let u = or_parts (ltb 319 w.xe) _ t.1 in
+    let v = or_parts (ltb 319 w.ys) _ u.1 in
     record {
       xs = ltb-false 319 w.xs t.0;
       xe = ltb-false 319 w.xe u.0;
@@ -26,7 +26,7 @@ within-window w h = rw (le-ltb 319 w.xs h.xs, le-ltb 319 w.xe h.xe, le-ltb 319 w
 
 pub pointer-within : (p : Pointer) → pointer_bad p ≡ false → PointerWithin p
 pointer-within p e =
-    let t = neither (ltb 319 p.x) (ltb 319 p.y) e in
+    let t = or_parts (ltb 319 p.x) (ltb 319 p.y) e in
     record { x = ltb-false 319 p.x t.0; y = ltb-false 319 p.y t.1 }
 
 pub within-pointer : (p : Pointer) → PointerWithin p → pointer_bad p ≡ false

@@ -1,6 +1,6 @@
 -- Rules: 01's decisions, byte by byte, as they stood before Q-9's table; "the decode equal to the former decisions for every byte". Whoever
 -- trusts 01's bytes reads this file: each definition here is proved equal to the one that goes by kinds (laws, `Decoding`).
-use Rattle.std.specs.Prelude.{ℕ, suc, ◌+◌, min, Bool, true, false, cond, not, ◌&&◌, ◌||◌, List, [], ◌∷◌, eqb, get_or}
+use Rattle.std.specs.Prelude.{ℕ, suc, ◌+◌, min, Bool, true, false, cond, not, ◌&&◌, ◌||◌, List, [], ◌∷◌, eqb, get_or, Some}
 use Rattle.codes.specs.declared.Kind.{Kind}
 use Rattle.codes.specs.declared.Kind.TheVariants.{NoEffect, Swreset, Slpin, Slpout, Invoff, Invon, Dispoff, Dispon, Caset, Raset, Ramwr, Madctl, Colmod, Ramwrc, Ramctrl, Porctrl, Gctrl, Vcoms, Lcmctrl, Vdvvrhen, Vrhs, Vdvs, Frctrl2, Pwctrl1, VendorD6, Pvgamctrl, Nvgamctrl}
 use Rattle.geometry.specs.Place.{largest_column, largest_row}
@@ -10,7 +10,6 @@ use Rattle.pixels.specs.declared.Walk.{Walk}
 use Rattle.lists.specs.Entries.{some}
 use Rattle.lists.specs.declared.Params.{Params}
 use Rattle.timing.specs.Lint.{soon_after, wrong_colmod}
-use Rattle.timing.specs.declared.Moment.TheVariants.{At}
 use Rattle.timing.specs.declared.Times.{Times}
 use Rattle.timing.specs.declared.Broken.{Broken}
 use Rattle.chip.specs.Begin.{full_window, origin}
@@ -72,7 +71,7 @@ broken_by_byte strict formats times colmod c t =
     record {
       rule1 = not (eqb c 0x11) && soon_after times.slpout t 5000000;
       rule2 =
-          (eqb c 0x10 && soon_after times.slpout t 120000000) || (eqb c 0x11 && soon_after (At times.slpin) t 120000000);
+          (eqb c 0x10 && soon_after times.slpout t 120000000) || (eqb c 0x11 && soon_after (Some times.slpin) t 120000000);
       rule3 = (eqb c 0x2C || eqb c 0x3C) && wrong_colmod formats colmod;
       rule4 = strict && soon_after times.swreset t 5000000;
     }
@@ -81,9 +80,9 @@ broken_by_byte strict formats times colmod c t =
 abbrev pub times_after_byte : Times → ℕ → ℕ → Times
 times_after_byte times c t =
     record {
-      slpout = cond (eqb c 0x11) (At t) times.slpout;
+      slpout = cond (eqb c 0x11) (Some t) times.slpout;
       slpin = cond (eqb c 0x10 || eqb c 0x01) t times.slpin;
-      swreset = cond (eqb c 0x01) (At t) times.swreset;
+      swreset = cond (eqb c 0x01) (Some t) times.swreset;
     }
 
 -- "commands + 1", and with 2C "ramwr_count + 1"

@@ -1,19 +1,14 @@
 -- Examples: 01's table of refusals, case by case: a fresh panel with a part at or past a limit, whether or not a call reaches it, and the
 -- number that an entry gives. Here are the transfer, with memory and without, and what tests memory alone; publishing and the whole view
 -- have their cases in no_room.
-use Rattle.std.specs.Prelude.{ℕ, ◌+◌, ◌^◌, Bool, true, false, ◌&&◌, List, [], ◌∷◌, ◌++◌, map, set, replicate, eqb}
+use Rattle.std.specs.Prelude.{ℕ, ◌+◌, ◌^◌, Bool, true, false, ◌&&◌, List, [], ◌∷◌, ◌++◌, map, set, replicate, eqb, Option, Some, None}
 use Rattle.status.specs.Tests.{memory_refusal}
 use Rattle.formats.specs.declared.Carry.{Carry}
 use Rattle.formats.specs.declared.Carry.TheVariants.{Empty, One, Two}
 use Rattle.marks.specs.Rows.{of_span}
-use Rattle.marks.specs.declared.Span.{Span}
-use Rattle.marks.specs.declared.Span.TheVariants.{Rows}
 use Rattle.lists.specs.Params.{no_params}
 use Rattle.lists.specs.declared.Params.{Params}
-use Rattle.lists.specs.declared.Current.{Current}
-use Rattle.lists.specs.declared.Current.TheVariants.{Nothing, At}
 use Rattle.board.specs.Board.{switched_to, formats_set}
-use Rattle.chip.specs.declared.InForce.{InForce}
 use Rattle.st7789.specs.Parts.{with_controller, with_cfg, with_chip, with_counts, with_marks, with_logs}
 use Rattle.st7789.specs.Entries.{fresh_panel}
 use Rattle.st7789.specs.Refusals.{transfer_refusal, bare_refusal}
@@ -106,7 +101,7 @@ in_force p s =
       registers = k.chip.registers;
       window = k.chip.window;
       walk = k.chip.walk;
-      decoder = record { cmd = InForce.Nothing; params = p; applied = false; in_pixels = false };
+      decoder = record { cmd = None; params = p; applied = false; in_pixels = false };
       times = k.chip.times;
     })
     k)
@@ -123,7 +118,7 @@ stored present p =
     }
 
 -- `used` records, of which the first has these parameters and pixel bytes, and a current one.
-abbrev pub traced : ℕ → Params → ℕ → Current → St7789p3 → St7789p3
+abbrev pub traced : ℕ → Params → ℕ → Option ℕ → St7789p3 → St7789p3
 traced used p pixels current s =
     record {
       controller = with_logs (record { traced = used; warned = s.controller.logs.warned; current = current }) s.controller;
@@ -145,7 +140,7 @@ counted a b c d e f =
     plain
 
 -- The dirty span.
-abbrev pub spanned : Span → St7789p3
+abbrev pub spanned : Option (ℕ × ℕ) → St7789p3
 spanned d = on_controller (with_marks (of_span d)) plain
 
 -- A limit, number first.
@@ -170,28 +165,28 @@ state_limits =
     ∷ given 0 (stored true (list 14 0))
     ∷ given 1 (stored true (list 15 0))
     ∷ given 0 (stored false (list 15 0))
-    ∷ given 0 (traced 1 (list 14 0) 0 Nothing plain)
-    ∷ given 1 (traced 1 (list 15 0) 0 Nothing plain)
-    ∷ given 0 (traced 0 (list 15 0) 0 Nothing plain)
+    ∷ given 0 (traced 1 (list 14 0) 0 None plain)
+    ∷ given 1 (traced 1 (list 15 0) 0 None plain)
+    ∷ given 0 (traced 0 (list 15 0) 0 None plain)
     -- "trace or warnings count above 128"
-    ∷ given 0 (traced 128 no_params 0 Nothing plain)
-    ∷ given 1 (traced 129 no_params 0 Nothing plain)
+    ∷ given 0 (traced 128 no_params 0 None plain)
+    ∷ given 1 (traced 129 no_params 0 None plain)
     ∷ given 0 (warned 128)
     ∷ given 1 (warned 129)
     -- "the dirty span has first above last, or last above 319"
-    ∷ given 0 (spanned (Rows 319 319))
-    ∷ given 1 (spanned (Rows 319 318))
-    ∷ given 0 (spanned (Rows 0 319))
-    ∷ given 1 (spanned (Rows 0 320))
+    ∷ given 0 (spanned (Some (319, 319)))
+    ∷ given 1 (spanned (Some (319, 318)))
+    ∷ given 0 (spanned (Some (0, 319)))
+    ∷ given 1 (spanned (Some (0, 320)))
     -- "a current trace record isn't the last used one, or its parameters differ from those in force"
-    ∷ given 0 (traced 1 no_params 0 (At 0) plain)
-    ∷ given 1 (traced 2 no_params 0 (At 0) plain)
-    ∷ given 1 (traced 1 no_params 0 (At 1) plain)
-    ∷ given 1 (traced 0 no_params 0 (At 0) plain)
-    ∷ given 0 (in_force (list 1 7) (traced 1 (list 1 7) 0 (At 0) plain))
-    ∷ given 1 (in_force (list 1 7) (traced 1 (list 1 8) 0 (At 0) plain))
-    ∷ given 1 (in_force (list 1 7) (traced 1 (list 2 7) 0 (At 0) plain))
-    ∷ given 0 (in_force (list 0 7) (traced 1 (list 0 8) 0 (At 0) plain))
+    ∷ given 0 (traced 1 no_params 0 (Some 0) plain)
+    ∷ given 1 (traced 2 no_params 0 (Some 0) plain)
+    ∷ given 1 (traced 1 no_params 0 (Some 1) plain)
+    ∷ given 1 (traced 0 no_params 0 (Some 0) plain)
+    ∷ given 0 (in_force (list 1 7) (traced 1 (list 1 7) 0 (Some 0) plain))
+    ∷ given 1 (in_force (list 1 7) (traced 1 (list 1 8) 0 (Some 0) plain))
+    ∷ given 1 (in_force (list 1 7) (traced 1 (list 2 7) 0 (Some 0) plain))
+    ∷ given 0 (in_force (list 0 7) (traced 1 (list 0 8) 0 (Some 0) plain))
     -- 02, Q-5: "a carry of two bytes outside 12 and 18 bits"; one byte may wait in every format
     ∷ given 0 (carrying true 0x03 0x00 (Two 1 2))
     ∷ given 0 (carrying true 0x66 0x00 (Two 1 2))
@@ -217,9 +212,9 @@ count_limits =
     -- 02, Q-3: "COUNT_HIGH also looks at both."
     ∷ given 5 (counted 0 0 0 0 (2 ^ 63 + 1) 0)
     ∷ given 5 (counted 0 0 0 0 0 (2 ^ 63 + 1))
-    ∷ given 0 (traced 1 no_params (2 ^ 63) (At 0) plain)
-    ∷ given 5 (traced 1 no_params (2 ^ 63 + 1) (At 0) plain)
-    ∷ given 0 (traced 1 no_params (2 ^ 63 + 1) Nothing plain)
+    ∷ given 0 (traced 1 no_params (2 ^ 63) (Some 0) plain)
+    ∷ given 5 (traced 1 no_params (2 ^ 63 + 1) (Some 0) plain)
+    ∷ given 0 (traced 1 no_params (2 ^ 63 + 1) None plain)
     ∷ []
 
 -- Transfers at and past the other limits.
@@ -256,7 +251,7 @@ cases =
     ++ (bare_case 0 plain 65536
     ∷ bare_case 4 plain 65537
     ∷ bare_case 1 (warned 129) 65537
-    ∷ bare_case 1 (traced 129 no_params (2 ^ 63 + 1) (At 0) plain) 0
+    ∷ bare_case 1 (traced 129 no_params (2 ^ 63 + 1) (Some 0) plain) 0
     ∷ bare_case 4 (counted (2 ^ 63 + 1) 0 0 0 0 0) 65537
     -- BAD_MEMORY of what tests memory alone
     ∷ memory_case 0 76800

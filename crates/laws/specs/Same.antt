@@ -1,6 +1,5 @@
 -- Rules: 01, when two states are the same.
-use Rattle.std.specs.Prelude.{ℕ, ◌≡◌, cond, List, [], map}
-use Rattle.std.proofs.Math.Option.{Option, none, some}
+use Rattle.std.specs.Prelude.{ℕ, ◌≡◌, cond, List, [], map, Option, Some, None}
 use Rattle.lists.specs.Fixed.{Fixed, used}
 use Rattle.lists.specs.Params.{fixed}
 use Rattle.lists.specs.declared.Stored.{Stored}
@@ -21,7 +20,7 @@ in_use f = record { count = f.count; part = used f }
 
 -- A stored command's list, if it has one.
 abbrev pub stored_content : Stored → Option (InUse ℕ)
-stored_content e = cond e.present (some (in_use (fixed e.params))) none
+stored_content e = cond e.present (Some (in_use (fixed e.params))) None
 
 -- What counts of a trace record.
 pub record Entry : Type 0 where

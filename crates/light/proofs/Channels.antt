@@ -1,17 +1,12 @@
 -- A channel scaled, a pixel dimmed, and full brightness.
-use Prim.Native.Nat.{ℕ, ◌*◌, ◌/◌, ◌^◌, ◌≤◌, ◌<◌, min}
+use Prim.Native.Nat.{ℕ, ◌*◌, ◌/◌, ◌≤◌, min}
 use mathlib.Core.Path.{◌≡◌, refl, sym, ap, ◌∙◌}
 use mathlib.Core.Bool.{Bool, true, false, cond}
 use native.Mathlib.Nat.{mul-le-mul, mul_comm, mul-zero, zero-mul, zero-div, div-le_of_le-mul, mul-div_cancel}
 use native.Mathlib.Omega.{arith}
 use borrow.Author.Tests.{ne_eqb, eqb-true}
 use lib.Dec.{eqb}
-use mir.Val.{Fits}
-use mir.Syntax.{w64}
 use Rattle.light.specs.Light.{red_of, green_of, blue_of, each_channel, scaled, dimmed}
-
-pub product-fits : (a b m n : ℕ) → a ≤ m → b ≤ n → m * n < 2 ^ 64 → Fits w64 (a * b)
-product-fits a b m n h k l = let p : a * b ≤ m * n = mul-le-mul h k in record { fits = omega arith }
 
 -- A channel is never above what it was.
 pub scaled-most : (channel level scale : ℕ) → scaled channel level scale ≤ channel
@@ -23,14 +18,6 @@ scaled-most channel level scale = go (eqb scale 0)
     go : (b : Bool) → cond b 0 (channel * min level scale / scale) ≤ channel
     go true = omega arith
     go false = div-le_of_le-mul scale product
-
--- A channel scaled step by step.
-pub scaled_made :
-    (channel level scale : ℕ) {l w s : ℕ} → (scale ≡ 0 → ⊥) → l ≡ min level scale → w ≡ l → s ≡ scale →
-    (channel * w / s ≡ scaled channel level scale) × (channel * w / s ≤ channel)
-scaled_made channel level scale {w = w} {s = s} some el ew es =
-    let made : channel * w / s ≡ scaled channel level scale = rw (ne_eqb scale 0 some, ew, el, es) refl in
-    (made, rw made (scaled-most channel level scale))
 
 -- Full brightness leaves a channel as it is.
 pub scaled-full : (channel level scale : ℕ) → scale ≤ level → (scale ≡ 0 → ⊥) → scaled channel level scale ≡ channel

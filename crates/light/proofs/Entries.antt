@@ -3,7 +3,6 @@ use Prim.Native.Nat.{ℕ, ◌+◌, ◌-◌, ◌*◌, ◌/◌, ◌%◌, ◌≤◌
 use mathlib.Core.Path.{◌≡◌, refl, ap, ◌∙◌}
 use mathlib.Core.Bool.{Bool, true, false, cond}
 use mathlib.Core.List.{List}
-use native.Mathlib.Nat.{mul-le-mul}
 use native.Mathlib.Omega.{arith}
 use lib.Bits.{bit_or, or_shifted}
 use lib.ListN.{get_or}
@@ -11,10 +10,6 @@ use Rattle.light.specs.Light.{red_of, green_of, blue_of, glass_of, scaled}
 use Rattle.light.specs.Looks.{glass_of_most, placed, Tables, dimmed_by}
 use Rattle.light.specs.declared.Light.{Light}
 use Rattle.light.proofs.Channels.{scaled-most, dimmed-scaled}
-
--- A channel in its place fits a pixel where the largest of it does.
-pub entry-fits : {s v most : ℕ} (times : ℕ) → s ≤ v → v ≤ most → most * times < 65536 → s * times < 65536
-entry-fits {s = s} {most = most} times h k fits = let p : s * times ≤ most * times = mul-le-mul (omega arith) (omega arith) in omega arith
 
 -- An entry of a table, made step by step.
 pub entry-made :

@@ -2,3 +2,4 @@ pub mod Channels
 pub mod Entries
 pub mod Looking
 pub mod Examples
+pub mod Each

@@ -2,7 +2,6 @@
 use Rattle.std.specs.Prelude.{ℕ, ◌-◌, ◌*◌, ◌≤◌, ◌≡◌, cond, List, get_or}
 use Rattle.light.specs.Light.{scaled, dimmed, glass_of}
 use Rattle.light.specs.declared.Light.{Light}
-use Rattle.light.specs.declared.Look.{Look}
 
 -- A number on the glass, of those up to `most`: 65535 for a number of memory, 31 or 63 for a channel.
 abbrev pub glass_of_most : ℕ → Light → ℕ → ℕ
@@ -25,7 +24,3 @@ pub record Tables (l : Light) (reds greens blues : List ℕ) : Type 0 where
 -- A number of memory on the glass and dimmed.
 abbrev pub dimmed_by : Light → ℕ → ℕ
 dimmed_by l raw = dimmed (glass_of l raw) l.level l.scale
-
--- A number of memory by a look.
-abbrev pub looked : Look → ℕ → ℕ
-looked k raw = cond k.dims (dimmed_by k.light raw) (glass_of k.light raw)

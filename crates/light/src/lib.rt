@@ -11,7 +11,7 @@ mod filling;
 mod glass;
 mod tables;
 
-#[derive(Clone, Copy)]
+#[derive(Clone, Copy, Debug, PartialEq, Eq)]
 pub enum FrameView {
     Raw,
     Glass,
@@ -19,17 +19,10 @@ pub enum FrameView {
 }
 
 // What a view goes by.
-#[derive(Clone, Copy)]
+#[derive(Clone, Copy, Debug, PartialEq, Eq)]
 pub struct Light {
     pub lit: bool,
     pub plain: bool,
     pub level: u32,
     pub scale: u32,
-}
-
-// A view as every pixel of it is made: the light in which it is a glass, and whether that is dimmed.
-#[derive(Clone, Copy)]
-struct Look {
-    light: Light,
-    dims: bool,
 }

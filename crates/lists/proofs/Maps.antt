@@ -1,9 +1,9 @@
--- A list by what is told of its entries: a part of it, one entry put anew, and a test that looks at no more.
+-- A list by what is told of its entries: a part of it, and a test that looks at no more.
 use Prim.Native.Nat.{ℕ, zero, suc}
 use mathlib.Core.Path.{◌≡◌, refl, ap, ap₂}
 use mathlib.Core.Bool.{Bool, ◌||◌}
 use mathlib.Core.List.{List, [], ◌∷◌, map}
-use lib.ListN.{take, set}
+use lib.ListN.{take}
 use Rattle.lists.specs.Entries.{some}
 
 module _ {A B : Type 0} (f : A → B) where
@@ -11,11 +11,6 @@ module _ {A B : Type 0} (f : A → B) where
   map-take zero l = refl
   map-take (suc n) [] = refl
   map-take (suc n) (x ∷ l) = ap (λ (r : List B). f x ∷ r) (map-take n l)
-
-  pub map-set : (l : List A) (i : ℕ) (x : A) → map f (set l i x) ≡ set (map f l) i (f x)
-  map-set [] i x = refl
-  map-set (y ∷ l) zero x = refl
-  map-set (y ∷ l) (suc i) x = ap (λ (r : List B). f y ∷ r) (map-set l i x)
 
   pub some-told : (test : A → Bool) (told : B → Bool) → ((x : A) → test x ≡ told (f x)) → (l : List A) → some test l ≡ some told (map f l)
   some-told test told e [] = refl

@@ -4,8 +4,8 @@ use mathlib.Core.Path.{◌≡◌, refl}
 use mathlib.Core.Bool.{Bool, true, false, or-true}
 use mathlib.Core.List.{List, [], ◌∷◌, ◌++◌}
 use lib.ListN.{get_or, set}
+use Rattle.std.proofs.lemmas.Bool.{or_parts}
 use Rattle.lists.specs.Entries.{some}
-use Rattle.lists.proofs.Bools.{neither}
 
 -- No element does.
 abbrev pub None : {A : Type 0} → (A → Bool) → List A → Type 0
@@ -15,8 +15,8 @@ None test (x ∷ xs) = (test x ≡ false) × None test xs
 module _ {A : Type 0} (test : A → Bool) where
   pub each-fails : (l : List A) → some test l ≡ false → (i : ℕ) (d : A) → test d ≡ false → test (get_or l i d) ≡ false
   each-fails [] e i d n = n
-  each-fails (x ∷ l) e zero d n = (neither (test x) (some test l) e).0
-  each-fails (x ∷ l) e (suc i) d n = each-fails l (neither (test x) (some test l) e).1 i d n
+  each-fails (x ∷ l) e zero d n = (or_parts (test x) (some test l) e).0
+  each-fails (x ∷ l) e (suc i) d n = each-fails l (or_parts (test x) (some test l) e).1 i d n
 
   pub none_passes : (l : List A) → None test l → some test l ≡ false
   none_passes [] h = refl
@@ -30,9 +30,9 @@ module _ {A : Type 0} (test : A → Bool) where
   -- Two lists after one another, and an entry put anew.
   pub none-append : (l m : List A) → some test l ≡ false → some test m ≡ false → some test (l ++ m) ≡ false
   none-append [] m e f = f
-  none-append (x ∷ l) m e f = let n = neither (test x) (some test l) e in rw n.0 (none-append l m n.1 f)
+  none-append (x ∷ l) m e f = let n = or_parts (test x) (some test l) e in rw n.0 (none-append l m n.1 f)
 
   pub none-set : (l : List A) (i : ℕ) (x : A) → some test l ≡ false → test x ≡ false → some test (set l i x) ≡ false
   none-set [] i x e f = refl
-  none-set (y ∷ l) zero x e f = let n = neither (test y) (some test l) e in rw f n.1
-  none-set (y ∷ l) (suc i) x e f = let n = neither (test y) (some test l) e in rw n.0 (none-set l i x n.1 f)
+  none-set (y ∷ l) zero x e f = let n = or_parts (test y) (some test l) e in rw f n.1
+  none-set (y ∷ l) (suc i) x e f = let n = or_parts (test y) (some test l) e in rw n.0 (none-set l i x n.1 f)

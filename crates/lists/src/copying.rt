@@ -1,4 +1,4 @@
-// One list copied over another, number by number.
+// One list copied over another.
 ghost use Rattle.std.specs.Prelude.{◌≡◌};
 ghost use Rattle.lists.specs.Copying.{overwritten};
 
@@ -6,12 +6,7 @@ ghost use Rattle.lists.specs.Copying.{overwritten};
 pub fn copy(from: &[u16], to: &mut [u16])
     ensures lent { to.new ≡ overwritten from.now to.old }
 {
-    if to.len() != from.len() {
-        return;
-    }
-    let mut i = 0;
-    while i < from.len() {
-        to[i] = from[i];
-        i += 1;
+    if to.len() == from.len() {
+        to.copy_from_slice(from);
     }
 }

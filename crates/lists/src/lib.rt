@@ -11,7 +11,8 @@ mod copying;
 
 pub const MAX_PARAMS: u8 = 14;
 
-// The parameter bytes that followed a command: the first `count` of 14.
+// The parameter bytes that followed a command: the first `count` of 14 (no heap; a count above 14 is what BAD_STATE tells).
+// No PartialEq, nor has what holds one: the bytes behind the count say nothing (`differs`).
 #[derive(Clone, Copy)]
 pub struct Params {
     pub bytes: [u8; 14],
@@ -19,6 +20,7 @@ pub struct Params {
 }
 
 // The place of one stored command: no list yet, or its last one.
+// A flag and not an Option<Params>: a place without a list may hold one of 15, and is not bad (the edit stored_long_absent_too).
 #[derive(Clone, Copy)]
 pub struct Stored {
     pub present: bool,
@@ -34,7 +36,8 @@ pub struct TraceRecord {
     pub cmd: u8,
 }
 
-// A timing rule that was broken, by which command and when.
+// A timing rule that was broken, by which command and when. The rule is a number: entries that hold no warning have 0 (`fresh_panel`), and
+// any number can be passed in.
 #[derive(Clone, Copy)]
 pub struct Warning {
     pub at: u64,
@@ -42,58 +45,28 @@ pub struct Warning {
     pub cmd: u8,
 }
 
-// The trace record that data is added to.
-#[derive(Clone, Copy)]
-pub enum Current {
-    Nothing,
-    At(u8),
-}
-
 // How many trace records the state holds, and how many warnings.
 pub const PLACES: usize = 128;
 
-fn wide(n: u8) -> usize
-    ensures { result ≡ n }
-{
-    n as usize
-}
-
-fn lesser(a: usize, b: usize) -> usize
-    ensures { result ≡ min a b }
-{
-    if a < b { a } else { b }
-}
-
-// The place that is free next in a list of which an owner may have `most` entries; `most` where none is.
+// The place that is free next in a list of which an owner may have `most` entries; `most` where none is, as `answer` says, so no Option.
 pub fn free(used: u8, most: usize) -> usize
     ensures answer { result ≡ min used most }
 {
-    lesser(wide(used), most)
+    usize::from(used).min(most)
 }
 
-// Whether entry i is the latest one.
+// Whether entry i is the latest one. A comparison with a name: it is public, and the edits is_latest_* name it.
 pub fn is_latest(i: u8, used: u8) -> bool
     ensures answer { result ≡ eqb (i + 1) used }
 {
-    wide(i) + 1 == wide(used)
+    usize::from(i) + 1 == usize::from(used)
 }
 
-// Whether more entries are used than an owner may have.
+// Whether more entries are used than an owner may have. With a name likewise: the edits over_*.
 pub fn over(used: u8, most: usize) -> bool
     ensures answer { result ≡ ltb most used }
 {
-    wide(used) > most
-}
-
-// How many parameters there is room for.
-fn room(count: u8) -> usize
-    ensures { result ≡ 14 - count }
-{
-    if count < MAX_PARAMS {
-        wide(MAX_PARAMS - count)
-    } else {
-        0
-    }
+    usize::from(used) > most
 }
 
 impl Params {
@@ -106,17 +79,22 @@ impl Params {
         }
     }
 
+    // How many more bytes find a place.
+    fn room(self) -> usize
+        ensures { result ≡ 14 - self.count }
+    {
+        usize::from(MAX_PARAMS.saturating_sub(self.count))
+    }
+
     // As many of the bytes as there are places free.
+    #[tactic(auto, using(crate::proofs::Filling::filling))]
     pub fn append(mut self, bytes: &[u8]) -> Params
         ensures answer { result ≡ filled self bytes.now }
     {
-        let fit = lesser(bytes.len(), room(self.count));
-        let mut i = 0;
-        while i < fit {
-            let at = wide(self.count);
-            self.bytes[at] = bytes[i];
-            self.count = self.count + 1;
-            i += 1;
+        let fit = bytes.len().min(self.room());
+        for byte in &bytes[..fit] {
+            self.bytes[usize::from(self.count)] = *byte;
+            self.count += 1;
         }
         self
     }
@@ -125,28 +103,19 @@ impl Params {
     pub fn excess(self, n: usize) -> u64
         ensures answer { result ≡ excess self n }
     {
-        let free = room(self.count);
-        if free < n {
-            return (n - free) as u64;
-        }
-        0
+        n.saturating_sub(self.room()) as u64
     }
 
+    // Not `!=`: the bytes behind the count say nothing.
+    #[tactic(auto, using(crate::proofs::Alike::differing))]
     pub fn differs(self, other: Params) -> bool
         ensures answer { result ≡ differ self other }
     {
         if self.count != other.count {
             return true;
         }
-        let n = lesser(wide(self.count), 14);
-        let mut i = 0;
-        while i < n {
-            if self.bytes[i] != other.bytes[i] {
-                return true;
-            }
-            i += 1;
-        }
-        false
+        let n = usize::from(self.count).min(14);
+        self.bytes[..n] != other.bytes[..n]
     }
 }
 
@@ -154,14 +123,7 @@ impl Params {
 pub fn stored_long(stored: [Stored; 12]) -> bool
     ensures answer { result ≡ some stored_long stored }
 {
-    let mut i = 0;
-    while i < 12 {
-        let entry = stored[i];
-        let params = entry.params;
-        if entry.present & (params.count > MAX_PARAMS) {
-            return true;
-        }
-        i += 1;
-    }
-    false
+    stored
+        .iter()
+        .any(|entry| entry.present && entry.params.count > MAX_PARAMS)
 }

@@ -1,16 +1,15 @@
 -- The check of a log: its loop over the records, and its three answers.
 use Prim.Native.Nat.{ℕ, ◌+◌, ◌-◌, ◌≤◌, ◌<◌}
 use mathlib.Core.Path.{◌≡◌, refl, sym, ap, ap₂, ◌∙◌}
-use mathlib.Core.Bool.{Bool, true, false, ◌||◌}
+use mathlib.Core.Logic.{◌⊎◌}
 use mathlib.Core.List.{List, []}
 use native.Mathlib.Omega.{arith}
 use borrow.Author.Tests.{lt-ltb, le-ltb, eq-eqb, ne_eqb}
-use lib.Dec.{ltb}
 use lib.ListN.{length, drop, get_or, length-drop, drop_of_length-le}
 use lib.Seq.{drop-drop}
-use Rattle.logs.specs.Log.{record_length, record_bad, from_bad, log_refusal, bad_offset}
+use Rattle.logs.specs.Log.{record_length, from_bad, log_refusal, bad_offset}
 use Rattle.logs.proofs.Cuts.{lent, lent-all, lent-long}
-use Rattle.logs.proofs.Records.{whole, bad-here, bad-later, bad-never}
+use Rattle.logs.proofs.Records.{not-bad, bad-for, bad-here, bad-later, bad-never}
 
 -- The refusal and the offset of a log that is too long, of one with a bad record, and of one that is accepted.
 pub long-refused : (log : List ℕ) → 65536 < length log → (6 ≡ log_refusal log) × (0 ≡ bad_offset log)
@@ -51,21 +50,18 @@ module _ (log : List ℕ) where
       first = ap from_bad (lent-all log at) ∙ k.left
 
       module _ {taken : ℕ} (e : taken ≡ record_length (lent log at)) where
-        flag : {b : Bool} → ltb 3 (get_or (lent log at) 0 0) || ltb (length (lent log at)) taken ≡ b → record_bad (lent log at) ≡ b
-        unfolding record_bad
-        flag t = rw e at t
-
         pub checking-bad :
-            length log ≤ 65536 → ltb 3 (get_or (lent log at) 0 0) || ltb (length (lent log at)) taken ≡ true →
-            (7 ≡ log_refusal log) × (at ≡ bad_offset log)
-        checking-bad few t = bad-refused log at few h (sym first ∙ bad-here (lent log at) any (flag t) ∙ lent-all log at)
+            length log ≤ 65536 → (3 < get_or (lent log at) 0 0) ⊎ ((get_or (lent log at) 0 0 ≤ 3) × (length (lent log at) < taken)) → (7 ≡ log_refusal log) × (at ≡ bad_offset log)
+        checking-bad few t = bad-refused log at few h (sym first ∙ bad-here (lent log at) any (bad-for (lent log at) (rw e at t)) ∙ lent-all log at)
 
-        pub checking-next : ltb 3 (get_or (lent log at) 0 0) || ltb (length (lent log at)) taken ≡ false → Checking log (at + taken)
-        checking-next t =
+        pub checking-next : get_or (lent log at) 0 0 ≤ 3 → taken ≤ length (lent log at) → Checking log (at + taken)
+        checking-next tag long =
             let behind : drop (at + taken) log ≡ drop (record_length (lent log at)) (lent log at) =
             sym (drop-drop taken at log) ∙ ap₂ (λ n l. drop n l) e (sym (lent-all log at))
             in
             record {
-              within = omega (arith, lent-long log at, (whole (lent log at) (flag t)).long);
-              left = ap from_bad behind ∙ sym (bad-later (lent log at) any (flag t)) ∙ first;
+              within = omega (arith, lent-long log at);
+              left = ap from_bad behind ∙ sym (bad-later (lent log at) any (not-bad (lent log at) tag (rw e at long))) ∙ first;
             }
+
+pub ruleset checking = (checking-next, checking-last)

@@ -7,6 +7,7 @@ use native.Mathlib.Omega.{arith}
 use lib.ListN.{length, drop, get_or, length-drop, drop_of_length-le}
 use Rattle.logs.specs.Log.{time_of, record_length, dc_of, release_of, head_at}
 use Rattle.logs.specs.declared.Head.{Head}
+use Rattle.logs.proofs.Cuts.{lent-all}
 
 pub head-past :
     (log : List ℕ) (at : ℕ) → length log ≤ at →
@@ -46,3 +47,5 @@ within log at = record { ordered = omega arith; inside = omega arith }
 
 pub head-within : (log : List ℕ) (at : ℕ) {h : Head} → h ≡ head_at log at → Within log h
 head-within log at e = subst (Within log) (sym e) (within log at)
+
+pub ruleset heads = (head-past, head_read, lent-all)

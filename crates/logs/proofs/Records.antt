@@ -1,10 +1,11 @@
 -- The records of a log: the first one, then those behind it.
 use Prim.Native.Nat.{ℕ, zero, suc, ◌≤◌, ◌<◌}
 use mathlib.Core.Path.{◌≡◌, refl, sym, ap, ◌∙◌}
-use mathlib.Core.Bool.{Bool, true, false, ◌||◌, true≢false}
+use mathlib.Core.Bool.{Bool, true, false, ◌||◌, or-true, true≢false}
+use mathlib.Core.Logic.{◌⊎◌, inl, inr}
 use mathlib.Core.List.{List, [], ◌∷◌, map}
 use native.Mathlib.Omega.{arith}
-use borrow.Author.Tests.{le-ltb, ltb-false}
+use borrow.Author.Tests.{le-ltb, lt-ltb, ltb-false}
 use lib.Dec.{ltb}
 use lib.ListN.{length, drop, get_or, length-drop}
 use Rattle.logs.specs.Log.{record_length, segment_of, record_bad, records_in, records, segments, first_bad, from_bad}
@@ -44,6 +45,12 @@ segments-last = ap (map segment_of) records-last
 pub not-bad : (rest : List ℕ) → get_or rest 0 0 ≤ 3 → record_length rest ≤ length rest → record_bad rest ≡ false
 unfolding record_bad
 not-bad rest h k = rw (le-ltb 3 (get_or rest 0 0) h, le-ltb (length rest) (record_length rest) k)
+
+-- A bad record: its tag is above 3, or it is cut short.
+pub bad-for : (rest : List ℕ) → (3 < get_or rest 0 0) ⊎ ((get_or rest 0 0 ≤ 3) × (length rest < record_length rest)) → record_bad rest ≡ true
+unfolding record_bad
+bad-for rest (inl h) = rw (lt-ltb 3 (get_or rest 0 0) h)
+bad-for rest (inr h) = rw (lt-ltb (length rest) (record_length rest) h.1) (or-true (ltb 3 (get_or rest 0 0)))
 
 pub record Whole (rest : List ℕ) : Type 0 where
   pub tag : get_or rest 0 0 ≤ 3

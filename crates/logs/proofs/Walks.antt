@@ -5,9 +5,9 @@ use mathlib.Core.List.{List, [], ◌∷◌}
 use native.Mathlib.Omega.{arith}
 use lib.ListN.{length, take, drop, get_or, length-drop, drop_of_length-le}
 use lib.Seq.{drop-drop}
+use Rattle.std.proofs.lemmas.List.{take_min, drop_min}
 use Rattle.logs.specs.Log.{Segment, time_of, body_length, record_length, dc_of, release_of, segment_of, segments, head_at}
 use Rattle.logs.specs.declared.Head.{Head}
-use Rattle.logs.proofs.Cuts.{drop-cut, take-cut}
 use Rattle.logs.proofs.Records.{segments-next, segments-last}
 
 -- The transfer of a record, with the bytes from its start to its end.
@@ -19,11 +19,11 @@ unfolding head_at segment_of
 head-segment log at =
     let k = body_length (drop at log) in
     let n = length log in
-    let body : drop (min (at + 11) n) log ≡ drop 11 (drop at log) = drop-cut (at + 11) log ∙ sym (drop-drop 11 at log) in
+    let body : drop (min (at + 11) n) log ≡ drop 11 (drop at log) = drop_min (at + 11) log ∙ sym (drop-drop 11 at log) in
     let left : length (drop 11 (drop at log)) ≡ n - at - 11 = length-drop 11 (drop at log) ∙ ap (λ m. m - 11) (length-drop at log) in
     let count : min (at + (11 + k)) n - min (at + 11) n ≡ min k (length (drop 11 (drop at log))) = omega arith in
     let bytes : take (min (at + (11 + k)) n - min (at + 11) n) (drop (min (at + 11) n) log) ≡ take k (drop 11 (drop at log)) =
-    ap₂ (λ i m. take i m) count body ∙ take-cut k (drop 11 (drop at log))
+    ap₂ (λ i m. take i m) count body ∙ take_min k (drop 11 (drop at log))
     in
     ap
     (λ l. record {
@@ -44,7 +44,7 @@ unfolding head_at
 step log at h =
     let rest = drop at log in
     let behind : drop (min (at + record_length rest) (length log)) log ≡ drop (record_length rest) rest =
-    drop-cut (at + record_length rest) log ∙ sym (drop-drop (record_length rest) at log)
+    drop_min (at + record_length rest) log ∙ sym (drop-drop (record_length rest) at log)
     in
     record {
       onward = omega arith;

@@ -1,3 +1,4 @@
 pub mod Log
+pub mod Refused
 pub mod Stored
 pub mod Examples

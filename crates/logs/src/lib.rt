@@ -1,41 +1,29 @@
 // The stored form of a log of transfers: its check, and the record at an offset.
 #![tactic(auto)]
 
-ghost use Rattle.std.specs.Prelude.{◌≡◌, ◌+◌, ◌≤◌, ◌<◌, ◌^◌, min, length, take, drop};
-ghost use Rattle.status.specs.Numbers.{number};
+ghost use Rattle.std.specs.Prelude.{◌≡◌, ◌+◌, ◌≤◌, ◌<◌, ◌^◌, length, take, drop};
 ghost use Rattle.logs.specs.Log.{value_of, record_length, head_at, log_refusal, bad_offset};
+ghost use Rattle.logs.specs.Refused.{refusal_of, offset_of};
 
-use status::Status;
+use status::Refusal;
 
 pub const MAX_LOG: usize = 65536;
 
-// What the check of a log answers: OK or why not, and the offset of a bad record.
-#[derive(Clone, Copy)]
-pub struct Checked {
+// Why a log is refused, and the offset of its first bad record; 0 for LOG_LONG, as `bad_offset` says, so no Option.
+#[derive(Clone, Copy, Debug, PartialEq, Eq)]
+pub struct Refused {
+    pub refusal: Refusal,
     pub offset: usize,
-    pub status: Status,
 }
 
 // A record of the log: its time, where its bytes start and end, and what its tag says.
-#[derive(Clone, Copy)]
+#[derive(Clone, Copy, Debug, PartialEq, Eq)]
 pub struct Head {
     pub t: u64,
     pub start: usize,
     pub end: usize,
     pub dc: bool,
     pub release: bool,
-}
-
-fn wide(n: u8) -> u64
-    ensures { result ≡ n }
-{
-    n as u64
-}
-
-fn lesser(a: usize, b: usize) -> usize
-    ensures { result ≡ min a b }
-{
-    if a < b { a } else { b }
 }
 
 // A number of at most 8 bytes, the high byte first.
@@ -45,10 +33,8 @@ fn value(bytes: &[u8]) -> u64
     ensures upper_bound { result < 256 ^ length bytes.now }
 {
     let mut v: u64 = 0;
-    let mut i = 0;
-    while i < bytes.len() {
-        v = v * 256 + wide(bytes[i]);
-        i += 1;
+    for byte in bytes {
+        v = v * 256 + u64::from(*byte);
     }
     v
 }
@@ -58,9 +44,8 @@ fn part(bytes: &[u8], from: usize, n: usize) -> &[u8]
     ensures result_value { result.now ≡ take n (drop from bytes.now) }
     ensures result_len_bound { length result.now ≤ n }
 {
-    let start = lesser(from, bytes.len());
-    let end = start + lesser(n, bytes.len() - start);
-    &bytes[start..end]
+    let rest = &bytes[from.min(bytes.len())..];
+    &rest[..n.min(rest.len())]
 }
 
 // How many bytes the first record of `rest` takes, by what it says itself.
@@ -68,42 +53,40 @@ fn size(rest: &[u8]) -> usize
     ensures value { result ≡ record_length rest.now }
     ensures upper_bound { result < 11 + 65536 }
 {
-    let length = value(part(rest, 9, 2));
-    11 + (length as usize)
+    11 + value(part(rest, 9, 2)) as usize
 }
 
 // The refusal of a log, and for BAD_LOG the offset of its first bad record.
-#[tactic(auto, unfolding(crate::specs::Log::log_refusal, crate::specs::Log::bad_offset))]
-pub fn check(log: &[u8]) -> Checked
-    ensures refusal { number result.status ≡ log_refusal log.now }
-    ensures answer { result.offset ≡ bad_offset log.now }
+#[tactic(auto, using(crate::proofs::Checking::checking), unfolding(crate::specs::Log::log_refusal, crate::specs::Log::bad_offset))]
+pub fn check(log: &[u8]) -> Result<(), Refused>
+    ensures refusal { refusal_of result ≡ log_refusal log.now }
+    ensures answer { offset_of result ≡ bad_offset log.now }
 {
     if MAX_LOG < log.len() {
-        return Checked {
+        return Err(Refused {
+            refusal: Refusal::LogLong,
             offset: 0,
-            status: Status::LogLong,
-        };
+        });
     }
     let mut at = 0;
+    // No `for`: a record says itself where it ends.
     while at < log.len() {
         let rest = &log[at..];
         let taken = size(rest);
         let end = at + taken;
-        if (3 < rest[0]) | (rest.len() < taken) {
-            return Checked {
+        if rest[0] > 3 || rest.len() < taken {
+            return Err(Refused {
+                refusal: Refusal::BadLog,
                 offset: at,
-                status: Status::BadLog,
-            };
+            });
         }
         at = end;
     }
-    Checked {
-        offset: 0,
-        status: Status::Ok,
-    }
+    Ok(())
 }
 
 // The record that begins at an offset; cut at the log's end, and empty past it.
+#[tactic(auto, using(crate::proofs::Heads::heads))]
 pub fn head_at(log: &[u8], at: usize) -> Head
     ensures answer { result ≡ head_at log.now at }
 {
@@ -120,8 +103,8 @@ pub fn head_at(log: &[u8], at: usize) -> Head
     let rest = &log[at..];
     let tag = rest[0];
     let t = value(part(rest, 1, 8));
-    let start = at + lesser(11, rest.len());
-    let end = at + lesser(size(rest), rest.len());
+    let start = at + rest.len().min(11);
+    let end = at + size(rest).min(rest.len());
     Head {
         t,
         start,

@@ -1,50 +1,28 @@
 // The rows that the next publishing copies. No other crate looks into the marks.
 #![tactic(auto)]
 
-ghost use Rattle.std.specs.Prelude.{◌≡◌, min, max};
+ghost use Rattle.std.specs.Prelude.{◌≡◌};
 ghost use Rattle.marks.specs.Rows.{widened, no_rows, all_rows, of_span, mark, mark_rows, span_of, span_bad, marks_bad};
 
-// Rows of the panel, first and last.
-#[derive(Clone, Copy)]
-pub enum Span {
-    Nothing,
-    Rows(u16, u16),
-}
-
-// The rows that are marked.
-#[derive(Clone, Copy)]
+// The rows that are marked: from the first to the last, if there are any.
+#[derive(Clone, Copy, Debug, PartialEq, Eq)]
 pub struct Marks {
-    span: Span,
+    span: Option<(u16, u16)>,
 }
 
-fn lesser(a: u16, b: u16) -> u16
-    ensures { result ≡ min a b }
-{
-    if a < b { a } else { b }
-}
-
-fn greater(a: u16, b: u16) -> u16
-    ensures { result ≡ max a b }
-{
-    if a < b { b } else { a }
-}
-
-fn widen(span: Span, row: u16) -> Span
+fn widen(span: Option<(u16, u16)>, row: u16) -> Option<(u16, u16)>
     ensures { result ≡ widened span row }
 {
     match span {
-        Span::Nothing => Span::Rows(row, row),
-        Span::Rows(first, last) => Span::Rows(lesser(first, row), greater(last, row)),
+        None => Some((row, row)),
+        Some((first, last)) => Some((first.min(row), last.max(row))),
     }
 }
 
-fn span_bad(span: Span) -> bool
+fn span_bad(span: Option<(u16, u16)>) -> bool
     ensures { result ≡ span_bad span }
 {
-    match span {
-        Span::Nothing => false,
-        Span::Rows(first, last) => (first > last) | (last > 319),
-    }
+    span.is_some_and(|(first, last)| first > last || last > 319)
 }
 
 impl Marks {
@@ -53,9 +31,7 @@ impl Marks {
     pub fn none() -> Marks
         ensures answer { result ≡ no_rows }
     {
-        Marks {
-            span: Span::Nothing,
-        }
+        Marks { span: None }
     }
 
     // Every row.
@@ -64,13 +40,13 @@ impl Marks {
         ensures answer { result ≡ all_rows }
     {
         Marks {
-            span: Span::Rows(0, 319),
+            span: Some((0, 319)),
         }
     }
 
     // Those of a span as it stands, also of one that no call leaves.
     #[tactic(auto, unfolding(crate::specs::Rows::of_span))]
-    pub fn of_span(span: Span) -> Marks
+    pub fn of_span(span: Option<(u16, u16)>) -> Marks
         ensures answer { result ≡ of_span span }
     {
         Marks { span }
@@ -81,22 +57,21 @@ impl Marks {
     pub fn mark_row(self, row: u16) -> Marks
         ensures answer { result ≡ mark self row }
     {
-        let old = self.span;
-        let wider = widen(old, row);
-        Marks { span: wider }
+        Marks {
+            span: widen(self.span, row),
+        }
     }
 
     // Every row from one to another more, in either order.
     pub fn mark_rows(self, a: u16, b: u16) -> Marks
         ensures answer { result ≡ mark_rows self a b }
     {
-        let once = self.mark_row(a);
-        once.mark_row(b)
+        self.mark_row(a).mark_row(b)
     }
 
     // The first and the last marked row.
     #[tactic(auto, unfolding(crate::specs::Rows::span_of))]
-    pub fn span(self) -> Span
+    pub fn span(self) -> Option<(u16, u16)>
         ensures answer { result ≡ span_of self }
     {
         self.span
@@ -107,7 +82,6 @@ impl Marks {
     pub fn bad(self) -> bool
         ensures answer { result ≡ marks_bad self }
     {
-        let span = self.span;
-        span_bad(span)
+        span_bad(self.span)
     }
 }

@@ -92,6 +92,8 @@ use Rattle.codes.specs.contracts.table as table
 use Rattle.codes.proofs.table.Reads as table-reads
 use Rattle.codes.specs.contracts.decode as decode
 use Rattle.codes.proofs.decode.Reads as decode-reads
+use Rattle.codes.specs.contracts.KindFromU16.from as kind-from
+use Rattle.codes.proofs.KindFromU16.from.Reads as kind-from-reads
 use Rattle.codes.specs.contracts.Kind.is as kind-is
 use Rattle.codes.proofs.Kind.is.Reads as kind-is-reads
 use Rattle.codes.specs.contracts.Kind.starts_run as starts-run
@@ -281,6 +283,9 @@ table-one κs args x y u v p q = (same p q, refl)
 
 pub decode-one : Only decode.ended decode-reads.Learnt
 decode-one κs args x y u v p q = (same p q, refl)
+
+pub kind-from-one : Only kind-from.ended kind-from-reads.Learnt
+kind-from-one κs args x y u v p q = (same p q, refl)
 
 pub kind-is-one : Only kind-is.ended kind-is-reads.Learnt
 kind-is-one κs args x y u v p q = (same p q, refl)

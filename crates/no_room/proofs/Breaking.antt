@@ -4,7 +4,14 @@ use mathlib.Core.Path.{◌≡◌, refl}
 use mathlib.Core.Bool.{true}
 use mathlib.Core.List.{List, [], ◌∷◌}
 use lib.ListN.{length, get_or}
-use Rattle.status.specs.Tests.{memory_row, view_row}
+use Rattle.std.specs.Prelude.{Bool, false, cond, not, eqb, Result, Ok, Err}
+use Rattle.status.specs.Numbers.{number, value_of}
+use Rattle.status.specs.declared.Refusal.{Refusal}
+use Rattle.status.specs.declared.Refusal.TheVariants.{BadMemory}
+use Rattle.light.specs.declared.FrameView.{FrameView}
+use Rattle.st7789.specs.declared.Controller.{Controller}
+use Rattle.views.specs.Views.{pixel_seen}
+use Rattle.status.specs.Tests.{memory_row, memory_refusal, view_row}
 use Rattle.board.specs.Board.{switched_to}
 use Rattle.st7789.specs.Entries.{new_memory}
 use Rattle.publishing.specs.Publish.{published_span, published_flags}
@@ -17,6 +24,23 @@ use Rattle.no_room.proofs.Model.{model}
 use Rattle.no_room.proofs.Kept.{numbered, transfer-kept, publish-kept}
 use Rattle.no_room.proofs.Impostors.{apart}
 
+-- A pixel, by the test of memory.
+module _ (k : Controller) (v : FrameView) (x y : ℕ) (memory : List ℕ) where
+  abbrev seen_by : Bool → Result ℕ Refusal
+  seen_by b = cond b (Ok (pixel_seen v k x y memory)) (Err BadMemory)
+
+  pixel-kept :
+      (number (seen_by (eqb (length memory) 76800)) ≡ memory_refusal (length memory))
+      × (value_of (seen_by (eqb (length memory) 76800)) ≡ pixel_seen v k x y memory)
+  unfolding pixel_seen
+  pixel-kept = by-test (eqb (length memory) 76800) refl
+    where
+      by-test :
+          (b : Bool) → eqb (length memory) 76800 ≡ b →
+          (number (seen_by b) ≡ memory_refusal (length memory)) × (value_of (seen_by b) ≡ pixel_seen v k x y memory)
+      by-test true e = (rw e, refl)
+      by-test false e = (rw e, rw e)
+
 pub promised-kept : KeepAll promised
 promised-kept =
     record {
@@ -28,7 +52,7 @@ promised-kept =
       set_invon_shows_ram = λ k on. refl;
       set_brightness = λ k level scale duty. refl;
       mark_all_dirty = λ k. refl;
-      pixel = λ k v x y memory. (numbered (memory_row (length memory)) refl, refl);
+      pixel = λ k v x y memory. pixel-kept k v x y memory;
       frame = λ k v memory buffer. (numbered (view_row (length memory) (length buffer)) refl, refl);
     }
 

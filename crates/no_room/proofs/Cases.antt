@@ -17,7 +17,8 @@ use Rattle.st7789.specs.declared.Controller.{Controller}
 use Rattle.st7789.specs.declared.St7789p3.{St7789p3}
 use Rattle.st7789.specs.contracts.St7789p3.reset as reset
 use Rattle.st7789.proofs.St7789p3.reset.Reads as reset-reads
-use Rattle.views.specs.declared.Seen.{Seen}
+use Rattle.std.specs.Prelude.{Result}
+use Rattle.status.specs.declared.Refusal.{Refusal}
 use Rattle.views.specs.contracts.pixel as pixel
 use Rattle.views.proofs.pixel.Reads as pixel-reads
 use Rattle.laws.specs.Cases.{state_limits, count_limits, all_given}
@@ -30,9 +31,9 @@ publish-and-view-given = refl
 
 -- Whatever the panel, the view and the pixel, in the panel or outside it.
 pub pixel-by-memory :
-    (κs : Lfts (pixel.signature).lifetimes) (k : Controller) (view : FrameView) (x y : ℕ) (memory : Bor (List ℕ)) (r : Seen)
+    (κs : Lfts (pixel.signature).lifetimes) (k : Controller) (view : FrameView) (x y : ℕ) (memory : Bor (List ℕ)) (r : Result ℕ Refusal)
     (e : AtExit pixel.ended κs) →
-    pixel-reads.Learnt κs (k, (view, (x, (y, (memory, tt))))) r e → number r.status ≡ memory_refusal (length memory.now)
+    pixel-reads.Learnt κs (k, (view, (x, (y, (memory, tt))))) r e → number r ≡ memory_refusal (length memory.now)
 pixel-by-memory κs k view x y memory r e promised = promised.0
 
 -- Whatever the panel and the domain.

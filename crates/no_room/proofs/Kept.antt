@@ -8,7 +8,7 @@ use lib.ListN.{length}
 use Rattle.status.specs.Numbers.{number}
 use Rattle.status.specs.Tests.{Test, first, transfer_row, publish_row}
 use Rattle.lists.specs.Entries.{some}
-use Rattle.lists.proofs.Bools.{neither}
+use Rattle.std.proofs.lemmas.Bool.{or_parts}
 use Rattle.st7789.specs.Refusals.{bad_state, counts_of, transfer_refusal}
 use Rattle.light.specs.Light.{dimmed}
 use Rattle.publishing.specs.Publish.{publish_refusal}
@@ -30,7 +30,7 @@ nameless x = not (eqb (number (status_of x.number)) x.number)
 pub numbered : (l : List Test) → some nameless l ≡ false → number (status_of (first l)) ≡ first l
 numbered [] e = refl
 numbered (x ∷ l) e =
-    let t = neither (nameless x) (some nameless l) e in
+    let t = or_parts (nameless x) (some nameless l) e in
     by-test x.refuses (eqb-true (number (status_of x.number)) x.number (not-false _ t.0)) (numbered l t.1)
   where
     by-test :

@@ -42,7 +42,7 @@ use Rattle.views.proofs.row.Reads as row-reads
 use Rattle.publishing.specs.contracts.publish as publish
 use Rattle.publishing.proofs.publish.Reads as publish-reads
 use Rattle.no_room.specs.Only.{Only, OnlyAs}
-use Rattle.no_room.proofs.Only.{same, told}
+use Rattle.no_room.proofs.Only.{same, told, told-value}
 
 -- An answer is a panel and a status.
 answered :
@@ -106,7 +106,7 @@ pub fill_one : Only fill.ended fill-reads.Learnt
 fill_one κs args x y u v p q = (refl, λ i. (tt, (tt, (tt, (same p q i, tt)))))
 
 pub pixel-one : Only pixel.ended pixel-reads.Learnt
-pixel-one κs args x y u v p q = (λ i. record { pixel = same p.1 q.1 i; status = told x.status y.status p.0 q.0 i }, refl)
+pixel-one κs args x y u v p q = (told-value x y p.0 q.0 p.1 q.1, refl)
 
 pub frame-one : Only frame.ended frame-reads.Learnt
 frame-one κs args x y u v p q = (told x y p.0 q.0, λ i. (tt, (tt, (tt, (same p.1 q.1 i, tt)))))

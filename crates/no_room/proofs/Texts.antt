@@ -51,7 +51,7 @@ use Rattle.replay.proofs.replay.Reads as replay-reads
 use Rattle.replay.specs.contracts.print_log as print-log
 use Rattle.replay.proofs.print_log.Reads as print-log-reads
 use Rattle.no_room.specs.Only.{Only, compares}
-use Rattle.no_room.proofs.Only.{same, told}
+use Rattle.no_room.proofs.Only.{same, told-check}
 
 pub put-byte-one : Only put_byte.ended put_byte-reads.Learnt
 put-byte-one κs args x y u v p q = (same p.0 q.0, λ i. (same p.1 q.1 i, (tt, (tt, tt))))
@@ -112,18 +112,14 @@ pub trace-mismatch-one : Only trace-mismatch.ended trace-mismatch-reads.Learnt
 trace-mismatch-one κs args x y u v p q = (same p q, refl)
 
 pub check-one : Only check.ended check-reads.Learnt
-check-one κs args x y u v p q = (λ i. record { offset = same p.1 q.1 i; status = told x.status y.status p.0 q.0 i }, refl)
+check-one κs args x y u v p q = (told-check x y p.0 q.0 p.1 q.1, refl)
 
 pub head-at-one : Only head_at.ended head_at-reads.Learnt
 head-at-one κs args x y u v p q = (same p q, refl)
 
 pub replay-one : Only replay.ended replay-reads.Learnt
 replay-one κs args x y u v p q = (
-  λ i. record {
-    offset = same p.1.0 q.1.0 i;
-    panel = same p.1.1 q.1.1 i;
-    status = told x.status y.status p.0 q.0 i;
-  },
+  λ i. record { panel = same p.1.1 q.1.1 i; checked = told-check x.checked y.checked p.0 q.0 p.1.0 q.1.0 i },
   refl,
 )
 

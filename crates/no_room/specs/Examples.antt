@@ -1,19 +1,15 @@
 -- Examples: 01's worked examples as rows of one table: the transfers made on a fresh panel, and a test of what they leave; of dimming, a
 -- test of what it answers. Those of Q-14 as rows of another, each under both profiles, those of Q-3 as rows of a third, and those of Q-5 as
 -- rows of a fourth.
-use Rattle.std.specs.Prelude.{ℕ, ◌+◌, ◌*◌, Bool, true, false, not, ◌&&◌, get_or, take, replicate, eqb}
+use Rattle.std.specs.Prelude.{ℕ, ◌+◌, ◌*◌, Bool, true, false, not, ◌&&◌, get_or, take, replicate, eqb, Option, Some, None}
 use mathlib.Core.List.{List, [], ◌∷◌, ◌++◌, foldl, map}
 use Rattle.pixels.specs.declared.Totals.{Totals}
 use Rattle.formats.specs.declared.Carry.{Carry}
 use Rattle.formats.specs.declared.Carry.TheVariants.{Empty, One, Two}
 use Rattle.marks.specs.Rows.{span_of}
-use Rattle.marks.specs.declared.Span.{Span}
-use Rattle.marks.specs.declared.Span.TheVariants.{Rows}
 use Rattle.lists.specs.Fixed.{used}
 use Rattle.lists.specs.Params.{listed, same_numbers}
 use Rattle.lists.specs.declared.Stored.{Stored}
-use Rattle.lists.specs.declared.Current.{Current}
-use Rattle.lists.specs.declared.Current.TheVariants.{At}
 use Rattle.sequence.specs.Sequence.{boot_sequence}
 use Rattle.boot.specs.Boot.{compared, step_of}
 use Rattle.sequence.specs.declared.BootStep.{BootStep}
@@ -70,9 +66,9 @@ abbrev pub pixels : ℕ → Panel → Bool
 pixels n p = eqb p.state.controller.counts.pixels_written n
 
 -- A span is these rows.
-abbrev pub is_rows : ℕ → ℕ → Span → Bool
-is_rows first last Span.Nothing = false
-is_rows first last (Rows a b) = eqb a first && eqb b last
+abbrev pub is_rows : ℕ → ℕ → Option (ℕ × ℕ) → Bool
+is_rows first last None = false
+is_rows first last (Some (a, b)) = eqb a first && eqb b last
 
 -- The rows to publish are these.
 abbrev pub span : ℕ → ℕ → Panel → Bool
@@ -113,9 +109,9 @@ abbrev pub warns_at : List ℕ → Panel → Bool
 warns_at times p = same_numbers (map (λ w. w.at) (take p.state.controller.logs.warned p.state.warnings)) times
 
 -- No record is current.
-abbrev pub is_none : Current → Bool
-is_none Current.Nothing = true
-is_none (At i) = false
+abbrev pub is_none : Option ℕ → Bool
+is_none None = true
+is_none (Some i) = false
 
 -- The parameters of a boot row as a segment, where it has any.
 abbrev pub data_of : List ℕ → List Call

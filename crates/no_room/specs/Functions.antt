@@ -1,9 +1,10 @@
 -- Rules: demand 3 of functions: anything of the types of the public functions that a host calls, what it is for them all to keep their
 -- promises, and the machine that they are for a host.
-use Rattle.std.specs.Prelude.{ℕ, Bool, true, false, List, [], replicate}
+use Rattle.std.specs.Prelude.{ℕ, Bool, true, false, List, [], replicate, Result}
 use denote.Triple.Clauses.{at_exit}
 use Rattle.status.specs.Numbers.{number}
-use Rattle.status.specs.declared.Status.{Status}
+use Rattle.status.specs.Numbers.{Status}
+use Rattle.status.specs.declared.Refusal.{Refusal}
 use Rattle.board.specs.declared.BoardDomain.{BoardDomain}
 use Rattle.board.specs.declared.PanelConfig.{PanelConfig}
 use Rattle.st7789.specs.declared.Answer.{Answer}
@@ -21,7 +22,6 @@ use Rattle.st7789.proofs.Controller.set_brightness.Reads as set-brightness-reads
 use Rattle.st7789.specs.contracts.Controller.mark_all_dirty as mark-all-dirty
 use Rattle.st7789.proofs.Controller.mark_all_dirty.Reads as mark-all-dirty-reads
 use Rattle.light.specs.declared.FrameView.{FrameView}
-use Rattle.views.specs.declared.Seen.{Seen}
 use Rattle.views.specs.contracts.pixel as pixel
 use Rattle.views.proofs.pixel.Reads as pixel-reads
 use Rattle.views.specs.contracts.frame as frame
@@ -52,7 +52,7 @@ pub record Functions : Type 0 where
   pub set_invon_shows_ram : Controller → Bool → Controller
   pub set_brightness : Controller → ℕ → ℕ → ℕ → Controller
   pub mark_all_dirty : Controller → Controller
-  pub pixel : Controller → FrameView → ℕ → ℕ → List ℕ → Seen
+  pub pixel : Controller → FrameView → ℕ → ℕ → List ℕ → Result ℕ Refusal
   pub frame : Controller → FrameView → List ℕ → List ℕ → Filled
 
 -- Each keeps its promise, which is its contract.
@@ -127,7 +127,7 @@ step_by f h (calls.looks x) = h
 
 -- The number of the refusal that a look is given.
 abbrev pub look_by : Functions → Host → calls.Look → ℕ
-look_by f h (calls.pixel v x y) = number (f.pixel h.panel.controller v x y h.memory).status
+look_by f h (calls.pixel v x y) = number (f.pixel h.panel.controller v x y h.memory)
 look_by f h (calls.view v room) = number (f.frame h.panel.controller v h.memory (replicate room 0)).status
 look_by f h (calls.row m r) = 0
 look_by f h calls.compare = 0

@@ -1,10 +1,9 @@
 -- Examples: two impostors of 01 as functions, and hosts whose calls give them away: "One that decodes the first segment and idles, or
 -- publishes once only, breaks demands 2 and 3."
-use Rattle.std.specs.Prelude.{false, cond, ◌&&◌, List, [], ◌∷◌, ltb, eqb, get_or, replicate}
-use Rattle.status.specs.declared.Status.TheVariants.{Ok}
+use Rattle.std.specs.Prelude.{false, cond, ◌&&◌, List, [], ◌∷◌, ltb, eqb, get_or, replicate, None}
+use Rattle.std.specs.Prelude.{Ok}
 use Rattle.pixels.specs.Run.{no_totals}
 use Rattle.publishing.specs.Publish.{no_flags}
-use Rattle.marks.specs.declared.Span.TheVariants.{Nothing}
 use Rattle.hosts.specs.Calls as calls
 use Rattle.hosts.specs.Calls.{Machine}
 use Rattle.no_room.specs.Kept.{Transfer, Publish}
@@ -15,13 +14,13 @@ use Rattle.no_room.specs.Promised.{promised_transfer, promised_publish, promised
 abbrev pub idling : Transfer
 idling p c =
     cond (c.dc && ltb 0 p.state.controller.counts.pixels_written)
-    (record { answer = record { panel = p.state; totals = no_totals; status = Ok }; memory = p.memory }) (promised_transfer p c)
+    (record { answer = record { panel = p.state; totals = no_totals; status = Ok tt }; memory = p.memory }) (promised_transfer p c)
 
 -- It publishes to a frame whose first number is 0, and accepts and forgets every other publish.
 abbrev pub publishing_once : Publish
 publishing_once p frame =
     cond (eqb (get_or frame 0 0) 0) (promised_publish p frame)
-    (record { answer = record { panel = p.state; span = Nothing; flags = no_flags; status = Ok }; frame = frame })
+    (record { answer = record { panel = p.state; span = None; flags = no_flags; status = Ok tt }; frame = frame })
 
 -- The machines with one of them, over memory of zeros.
 abbrev pub idler : Machine

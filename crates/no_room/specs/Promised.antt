@@ -1,8 +1,8 @@
 -- Rules: what the definitions compute, as functions, with the status read off its number: that the promises can be kept is said of these.
-use Rattle.std.specs.Prelude.{ℕ, [], ◌∷◌, length, get_or}
+use Rattle.std.specs.Prelude.{ℕ, [], ◌∷◌, length, get_or, cond, eqb, Ok, Err}
 use Rattle.status.specs.Tests.{memory_refusal}
-use Rattle.status.specs.declared.Status.{Status}
-use Rattle.status.specs.declared.Status.TheVariants.{Ok, BadState, BadMemory, BadFrame, TooLong, CountHigh, LogLong, BadLog}
+use Rattle.status.specs.Numbers.{Status}
+use Rattle.status.specs.declared.Refusal.TheVariants.{BadState, BadMemory, BadFrame, TooLong, CountHigh, LogLong, BadLog}
 use Rattle.st7789.specs.Refusals.{transfer_refusal}
 use Rattle.st7789.specs.Entries.{fresh_panel, transfer_totals, new_memory, reset_state, reset_memory, powered_set, shows_set, brightness_set, all_marked}
 use Rattle.views.specs.Views.{pixel_seen, frame_refusal, frame_seen}
@@ -13,7 +13,10 @@ use Rattle.no_room.specs.Functions.{Functions}
 
 -- "No. | Name", read the other way.
 abbrev pub status_of : ℕ → Status
-status_of n = get_or (Ok ∷ BadState ∷ BadMemory ∷ BadFrame ∷ TooLong ∷ CountHigh ∷ LogLong ∷ BadLog ∷ []) n Ok
+status_of n =
+    get_or
+    (Ok tt ∷ Err BadState ∷ Err BadMemory ∷ Err BadFrame ∷ Err TooLong ∷ Err CountHigh ∷ Err LogLong ∷ Err BadLog ∷ [])
+    n (Ok tt)
 
 -- A transfer.
 unfoldable pub promised_transfer : Transfer
@@ -61,7 +64,7 @@ promised_but transfer publish =
       set_invon_shows_ram = λ k on. shows_set on k;
       set_brightness = λ k level scale duty. brightness_set level scale duty k;
       mark_all_dirty = λ k. all_marked k;
-      pixel = λ k v x y memory. record { pixel = pixel_seen v k x y memory; status = status_of (memory_refusal (length memory)) };
+      pixel = λ k v x y memory. cond (eqb (length memory) 76800) (Ok (pixel_seen v k x y memory)) (Err BadMemory);
       frame = λ k v memory buffer.
           record { status = status_of (frame_refusal (length memory) (length buffer)); buffer = frame_seen v k memory buffer };
     }

@@ -3,7 +3,7 @@
 // and the log.
 #![tactic(auto)]
 
-ghost use Rattle.std.specs.Prelude.{◌≡◌, ◌≤◌, length};
+ghost use Rattle.std.specs.Prelude.{◌≡◌, length};
 
 use std::env::{Env, FillError};
 use std::io;
@@ -19,64 +19,43 @@ struct Streams {
     err: Stderr,
 }
 
-fn tell(stderr: Stderr, what: &[u8]) -> io::Result<()> {
-    stderr.write_all(b"panel-replay: ")?;
-    stderr.write_all(what)?;
-    stderr.write_all(b"\n")
-}
-
-fn print(stdout: Stdout, out: &[u8], used: usize) -> io::Result<()> {
-    if used <= out.len() {
-        return stdout.write_all(&out[..used]);
-    }
-    Ok(())
+fn tell(stderr: Stderr, what: &str) -> io::Result<()> {
+    println!(stderr; "panel-replay: {what}")
 }
 
 fn show(stdout: Stdout, log: &[u8]) -> io::Result<()> {
     let mut out = [0u8; 18000];
-    let written = replay::print_log(log, &mut out);
-    print(stdout, &out, written)
+    let used = replay::print_log(log, &mut out);
+    stdout.write_all(&out[..used.min(out.len())])
 }
 
 fn show_numbered(stdout: Stdout, number: u64, log: &[u8]) -> io::Result<()> {
-    stdout.write_all(b"log ")?;
-    stdout.println(number)?;
+    println!(stdout; "log {number}")?;
     show(stdout, log)
-}
-
-fn wide(n: u8) -> usize
-    ensures { result ≤ 255 }
-{
-    n as usize
-}
-
-fn length_of(a: u8, b: u8, c: u8, d: u8) -> usize {
-    wide(a) + 256 * (wide(b) + 256 * (wide(c) + 256 * wide(d)))
 }
 
 // The logs of a list, one after the other. One that the list ends in is not run.
 fn run_logs(streams: Streams, list: &[u8]) -> io::Result<()> {
-    let mut at = 0;
+    let mut rest = list;
     let mut number = 0;
-    while at + 4 <= list.len() {
-        let size = length_of(list[at], list[at + 1], list[at + 2], list[at + 3]);
-        let from = at + 4;
-        if list.len() - from < size {
-            return tell(streams.err, b"the list ends within a log");
+    while let Some((length, after)) = rest.split_first_chunk::<4>() {
+        let size = u32::from_le_bytes(*length) as usize;
+        if after.len() < size {
+            return tell(streams.err, "the list ends within a log");
         }
         number += 1;
-        at = from + size;
-        show_numbered(streams.out, number, &list[from..at])?;
+        show_numbered(streams.out, number, &after[..size])?;
+        rest = &after[size..];
     }
-    if at < list.len() {
-        return tell(streams.err, b"the list ends within a length");
+    if !rest.is_empty() {
+        return tell(streams.err, "the list ends within a length");
     }
     Ok(())
 }
 
 fn run_list(streams: Streams, list: &[u8]) -> io::Result<()> {
     if MAX_LIST < list.len() {
-        return tell(streams.err, b"a list of logs has at most 1048576 bytes");
+        return tell(streams.err, "a list of logs has at most 1048576 bytes");
     }
     run_logs(streams, list)
 }
@@ -88,7 +67,7 @@ fn replay_one(stdout: Stdout, mut stdin: Stdin) -> io::Result<()> {
     show(stdout, &log[..n])
 }
 
-// Room for one byte more than the longest list.
+// Room for one byte more than the longest list. Apart from its caller, where antt runs out of stack over so long a literal.
 fn room() -> [u8; 1048577]
     ensures { 1048577 ≡ length result }
 {
@@ -101,12 +80,8 @@ fn replay_list(streams: Streams, mut stdin: Stdin) -> io::Result<()> {
     run_list(streams, &list[..n])
 }
 
-fn is_cases(word: [u8; 5]) -> bool {
-    let start = (word[0] == b'c') & (word[1] == b'a');
-    let end = (word[2] == b's') & (word[3] == b'e') & (word[4] == b's');
-    start & end
-}
-
+// This and `Streams`, `room` and `read_arguments` are as in panel_script: a function of a library has to promise its whole
+// answer, and what an argument is no contract knows.
 // What the arguments ask for: a log to replay, a list of them, or nothing that there is.
 #[derive(Clone, Copy)]
 enum Asked {
@@ -120,13 +95,11 @@ fn read_arguments(rt: &impl Env) -> Asked {
     let mut more = [0u8; 1];
     let first = rt.arg(1, &mut word);
     let second = rt.arg(2, &mut more);
-    if matches!(first, Err(FillError::NotPresent)) {
-        return Asked::Log;
+    match (first, second) {
+        (Err(FillError::NotPresent), _) => Asked::Log,
+        (Ok(5), Err(FillError::NotPresent)) if word == *b"cases" => Asked::Cases,
+        _ => Asked::Nothing,
     }
-    if matches!(second, Err(FillError::NotPresent)) & matches!(first, Ok(5)) & is_cases(word) {
-        return Asked::Cases;
-    }
-    Asked::Nothing
 }
 
 fn main(rt: HostRuntime) -> io::Result<()> {
@@ -140,7 +113,7 @@ fn main(rt: HostRuntime) -> io::Result<()> {
         Asked::Nothing => {
             tell(
                 streams.err,
-                b"takes no words, or the word `cases` for a list of logs",
+                "takes no words, or the word `cases` for a list of logs",
             )
         }
     }

@@ -1,5 +1,3 @@
-pub mod Alike
 pub mod Lent
-pub mod Pieces
 pub mod Reading
 pub mod Scanning

@@ -1,5 +1,5 @@
 -- Rules: docs/SCRIPTS.md, the words of a script: "words part at spaces; empty lines and what follows a `#` are skipped"
-use Rattle.std.specs.Prelude.{ℕ, zero, suc, Bool, true, false, cond, not, ◌&&◌, List, [], ◌∷◌, take, drop, ◌==◌, nat_eq}
+use Rattle.std.specs.Prelude.{ℕ, zero, suc, Bool, cond, not, List, [], ◌∷◌, take, drop, ◌==◌, nat_eq}
 
 -- How many bytes stand before the first that passes the test.
 abbrev pub up_to : (ℕ → Bool) → List ℕ → ℕ
@@ -26,10 +26,3 @@ unspaced text = drop (run 32 text) text
 abbrev pub word_at : ℕ → List ℕ → List ℕ
 word_at zero text = before_first 32 (unspaced text)
 word_at (suc k) text = word_at k (drop (until 32 (unspaced text)) (unspaced text))
-
--- Two texts have the same bytes.
-abbrev pub same : List ℕ → List ℕ → Bool
-same [] [] = true
-same [] (y ∷ b) = false
-same (x ∷ a) [] = false
-same (x ∷ a) (y ∷ b) = x == y && same a b

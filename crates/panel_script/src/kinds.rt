@@ -1,115 +1,145 @@
-// What a word of a line may be, by a letter, and the number that such a word stands for.
-use crate::numbers::Number;
-use crate::{numbers, words};
+// What a word of a line may be, and what it stands for.
+use crate::numbers;
+use crate::wrong::Wrong;
+use board::BoardDomain;
+use formats::Carry;
+use views::{FrameView, Memory};
 
-pub(crate) fn byte(n: u64) -> u8 {
-    if n < 256 { n as u8 } else { 0 }
+// Which buffer is lent.
+#[derive(Clone, Copy)]
+pub(crate) enum Loan {
+    Memory,
+    Frame,
+    View,
 }
 
-pub(crate) fn short(n: u64) -> u16 {
-    if n < 65536 { n as u16 } else { 0 }
+// A decimal number, `most` at most.
+pub(crate) fn decimal(word: &[u8], most: u64) -> Result<u64, Wrong> {
+    numbers::decimal(word, most).ok_or(Wrong::BadNumber)
 }
 
-// The place of a word in a text of words: one past the last where it is none of them.
-pub(crate) fn place(word: &[u8], names: &[u8]) -> usize {
-    let mut i = 0;
-    while i < names.len() {
-        let name = words::word(names, i);
-        if (name.len() == 0) | words::is(word, name) {
-            return i;
-        }
-        i += 1;
+// A decimal number of any size.
+pub(crate) fn time(word: &[u8]) -> Result<u64, Wrong> {
+    decimal(word, u64::MAX)
+}
+
+// A decimal number that fits its type.
+pub(crate) fn number<T: TryFrom<u64>>(word: &[u8]) -> Result<T, Wrong>
+where
+    T::Error: Drop,
+{
+    T::try_from(time(word)?).ok().ok_or(Wrong::BadNumber)
+}
+
+// Two hex digits.
+pub(crate) fn byte(word: &[u8]) -> Result<u8, Wrong> {
+    let n = numbers::hex(word, 2).ok_or(Wrong::BadNumber)?;
+    u8::try_from(n).ok().ok_or(Wrong::BadNumber)
+}
+
+// Four hex digits, as two bytes.
+pub(crate) fn two_bytes(word: &[u8]) -> Result<(u8, u8), Wrong> {
+    if word.len() != 4 {
+        return Err(Wrong::BadNumber);
     }
-    i
+    let first = byte(&word[..2])?;
+    let second = byte(&word[2..])?;
+    Ok((first, second))
 }
 
-// The domains are 0 to 6, the views 7 to 9, the memories of a row 10 and 11, the buffers 11 to 13.
-fn name(word: &[u8]) -> Number {
-    let value = place(
-        word,
-        b"mcu_rail rtc board_rail battery card flash host raw glass perceived panel frame memory view",
-    );
-    Number {
-        value: value as u64,
-        good: true,
+// Four hex digits.
+pub(crate) fn short(word: &[u8]) -> Result<u16, Wrong> {
+    let (high, low) = two_bytes(word)?;
+    Ok(u16::from_be_bytes([high, low]))
+}
+
+pub(crate) fn flag(word: &[u8]) -> Result<bool, Wrong> {
+    match word {
+        b"0" => Ok(false),
+        b"1" => Ok(true),
+        _ => Err(Wrong::BadNumber),
     }
-}
-
-// The place of a stored command: 12 where it is none.
-fn stored(word: &[u8]) -> Number {
-    let code = numbers::hex(word, 2);
-    let codes = codes::table();
-    let command = codes::decode(&codes, byte(code.value));
-    let place = command.place();
-    Number {
-        value: place as u64,
-        good: code.good,
-    }
-}
-
-// A number from the least to the most that is taken.
-fn within(n: Number, least: u64, most: u64) -> Number {
-    let low = least <= n.value;
-    let high = n.value <= most;
-    Number {
-        value: n.value,
-        good: n.good & low & high,
-    }
-}
-
-fn flag(word: &[u8]) -> Number {
-    within(numbers::hex(word, 1), 0, 1)
 }
 
 // A flag that may be left out, and is 0 then.
-fn flag_or_none(word: &[u8]) -> Number {
-    if word.len() == 0 {
-        return Number {
-            value: 0,
-            good: true,
-        };
+pub(crate) fn flag_or_none(word: &[u8]) -> Result<bool, Wrong> {
+    if word.is_empty() {
+        return Ok(false);
     }
     flag(word)
 }
 
-// One byte or two in hex; two of them from 65536 on.
-fn one_or_two(word: &[u8]) -> Number {
-    if word.len() == 4 {
-        let two = numbers::hex(word, 4);
-        return Number {
-            value: 65536 + short(two.value) as u64,
-            good: two.good,
-        };
+// A timing rule, 1 to 4.
+pub(crate) fn rule(word: &[u8]) -> Result<u8, Wrong> {
+    let n = number::<u8>(word)?;
+    if matches!(n, 1..=4) {
+        Ok(n)
+    } else {
+        Err(Wrong::BadNumber)
     }
-    numbers::hex(word, 2)
 }
 
-// Any other letter takes any word.
-pub(crate) fn read(kind: u8, word: &[u8]) -> Number {
-    match kind {
-        b'f' => flag(word),
-        b'o' => flag_or_none(word),
-        b'h' => numbers::hex(word, 2),
-        b'w' => numbers::hex(word, 4),
-        b'k' => one_or_two(word),
-        b'c' => within(stored(word), 0, 11),
-        b'r' => within(numbers::decimal(word, 4), 1, 4),
-        b'i' => numbers::decimal(word, 255),
-        b's' => numbers::decimal(word, 65535),
-        b'n' => numbers::decimal(word, 76801),
-        b'l' => numbers::decimal(word, 4294967295),
-        b't' => numbers::decimal(word, u64::MAX),
-        b'D' => within(name(word), 0, 6),
-        b'V' => within(name(word), 7, 9),
-        b'M' => within(name(word), 10, 11),
-        b'B' => within(name(word), 11, 13),
-        b'q' => Number {
-            value: words::is(word, b"none") as u64,
-            good: true,
-        },
-        _ => Number {
-            value: 0,
-            good: true,
-        },
+// The place of a stored command.
+pub(crate) fn stored(word: &[u8]) -> Result<usize, Wrong> {
+    let codes = codes::table();
+    let command = codes::decode(&codes, byte(word)?);
+    let place = command.place();
+    if place < 12 {
+        Ok(place)
+    } else {
+        Err(Wrong::BadNumber)
+    }
+}
+
+// One byte or two that wait for their pixel.
+pub(crate) fn carry(word: &[u8]) -> Result<Carry, Wrong> {
+    if word.len() == 4 {
+        let (first, second) = two_bytes(word)?;
+        return Ok(Carry::Two(first, second));
+    }
+    Ok(Carry::One(byte(word)?))
+}
+
+// A word as text; none of the names where it is no text.
+pub(crate) fn text(word: &[u8]) -> &str {
+    std::str::from_utf8(word).unwrap_or("?")
+}
+
+pub(crate) fn domain(word: &[u8]) -> Result<BoardDomain, Wrong> {
+    match text(word) {
+        "mcu_rail" => Ok(BoardDomain::McuRail),
+        "rtc" => Ok(BoardDomain::Rtc),
+        "board_rail" => Ok(BoardDomain::BoardRail),
+        "battery" => Ok(BoardDomain::Battery),
+        "card" => Ok(BoardDomain::Card),
+        "flash" => Ok(BoardDomain::Flash),
+        "host" => Ok(BoardDomain::Host),
+        _ => Err(Wrong::BadWord),
+    }
+}
+
+pub(crate) fn view(word: &[u8]) -> Result<FrameView, Wrong> {
+    match text(word) {
+        "raw" => Ok(FrameView::Raw),
+        "glass" => Ok(FrameView::Glass),
+        "perceived" => Ok(FrameView::Perceived),
+        _ => Err(Wrong::BadWord),
+    }
+}
+
+pub(crate) fn memory(word: &[u8]) -> Result<Memory, Wrong> {
+    match text(word) {
+        "panel" => Ok(Memory::Panel),
+        "frame" => Ok(Memory::Frame),
+        _ => Err(Wrong::BadWord),
+    }
+}
+
+pub(crate) fn buffer(word: &[u8]) -> Result<Loan, Wrong> {
+    match text(word) {
+        "memory" => Ok(Loan::Memory),
+        "frame" => Ok(Loan::Frame),
+        "view" => Ok(Loan::View),
+        _ => Err(Wrong::BadWord),
     }
 }

@@ -3,19 +3,19 @@
 
 ghost use Rattle.std.specs.Prelude.{◌≡◌, ◌≤◌, length};
 
-use board::PanelConfig;
-use calls::Lent;
-use forms::Line;
+use bench::Bench;
+use forms::Call;
 use print::Streams;
-use st7789::St7789p3;
-use status::PANEL_PIXELS;
 use std::env::{Env, FillError};
 use std::io;
-use std::io::{Print, Stdout};
+use std::io::Print;
+use wrong::Wrong;
 
+mod bench;
 mod bytes;
 mod calls;
 mod dump;
+mod fields;
 mod forms;
 mod kinds;
 mod looks;
@@ -24,119 +24,52 @@ mod picture;
 mod print;
 mod sets;
 mod words;
+mod wrong;
 
 // A longer script is run up to the last line that ends within so many bytes; the next line is bad. A longer list of scripts is
 // not run.
 const MAX_SCRIPT: usize = 1048576;
 
-// Too long where a line ends past what a script may have.
-fn within(script: &[u8], end: usize) -> usize {
-    let cut = (MAX_SCRIPT < script.len()) & (MAX_SCRIPT <= end);
-    forms::wrong_if(cut, forms::TOO_LONG)
-}
-
-// What a call leaves of the panel, with as much of memory, frame and view as it is lent.
-fn call(
-    stdout: Stdout,
-    panel: St7789p3,
-    read: Line,
-    line: &[u8],
-    bytes: &[u8],
-    lent: Lent,
-    memory: &mut [u16],
-    frame: &mut [u16],
-    view: &mut [u16],
-) -> io::Result<St7789p3> {
-    let own = calls::lent_to(read.call, lent);
-    let cells = forms::least(own.memory, memory.len());
-    let framed = forms::least(own.frame, frame.len());
-    let seen = forms::least(own.view, view.len());
-    looks::look(
-        stdout,
-        panel,
-        read,
-        line,
-        &memory[..cells],
-        &frame[..framed],
-        &mut view[..seen],
-    )?;
-    calls::run(
-        stdout,
-        panel,
-        read,
-        bytes,
-        &mut memory[..cells],
-        &mut frame[..framed],
-    )
-}
-
-// Runs a script; `head` is the line that begins it in a list, or nothing.
-fn run(
-    streams: Streams,
-    head: &[u8],
+// The call of a line, which ends at a place of the script.
+fn read(
     script: &[u8],
+    end: usize,
+    line: &[u8],
+    bench: &Bench,
     bytes: &mut [u8],
-    memory: &mut [u16],
-    frame: &mut [u16],
-    view: &mut [u16],
-) -> io::Result<()> {
-    let cfg = PanelConfig::new(true);
-    let mut panel = St7789p3::fresh(cfg);
-    let mut lent = Lent {
-        memory: PANEL_PIXELS,
-        frame: PANEL_PIXELS,
-        view: PANEL_PIXELS,
-    };
+) -> Result<Option<Call>, Wrong> {
+    if MAX_SCRIPT < script.len() && MAX_SCRIPT <= end {
+        return Err(Wrong::TooLong);
+    }
+    forms::read(line, bench.panel.controller.logs, bytes)
+}
+
+// Runs a script; `head` is the line that begins it in a list, or nothing. Here and below a line begins where the one before it
+// ends, so the loops go by that place.
+fn run(streams: Streams, head: &[u8], script: &[u8]) -> io::Result<()> {
+    let mut bench = Bench::new(streams.out);
+    let mut bytes = [0u8; 65537];
     let mut at = 0;
     let mut number = 0;
     while at < script.len() {
         let whole = words::before(words::tail(script, at), b'\n');
         let line = words::before(whole, b'#');
         let end = at + whole.len();
-        let logs = panel.controller.logs;
-        let read = forms::read(line, logs.traced, logs.warned, bytes);
-        let wrong = forms::first(within(script, end), read.wrong);
         number += 1;
-        if wrong != 0 {
-            return print::bad_line(streams, head, number, wrong);
+        match read(script, end, line, &bench, &mut bytes) {
+            Err(wrong) => return print::bad_line(streams, head, number, wrong),
+            Ok(Some(call)) => bench.run(call, line, &bytes)?,
+            Ok(None) => {}
         }
-        lent = calls::lend(lent, read);
-        panel = call(
-            streams.out,
-            panel,
-            read,
-            line,
-            words::head(bytes, read.count),
-            lent,
-            memory,
-            frame,
-            view,
-        )?;
         at = end + 1;
     }
-    dump::print(streams.out, panel, memory, frame, view)
-}
-
-fn start(streams: Streams, head: &[u8], script: &[u8]) -> io::Result<()> {
-    let mut bytes = [0u8; 65537];
-    let mut memory = [0u16; 76801];
-    let mut frame = [0u16; 76801];
-    let mut view = [0u16; 76801];
-    run(
-        streams,
-        head,
-        script,
-        &mut bytes,
-        &mut memory,
-        &mut frame,
-        &mut view,
-    )
+    bench.dump()
 }
 
 // Whether a line begins a case: `case NAME`.
 fn begins_case(line: &[u8]) -> bool {
     let content = words::before(line, b'#');
-    forms::has(content, 2) & words::is(words::word(content, 0), b"case")
+    words::count(content) == 2 && words::word(content, 0) == b"case".as_slice()
 }
 
 // How much of a text stands before the next line that begins a case.
@@ -161,9 +94,9 @@ fn run_cases(streams: Streams, text: &[u8]) -> io::Result<()> {
         let line = words::before(words::tail(text, at), b'\n');
         let rest = words::tail(text, at + line.len() + 1);
         let size = case_size(rest);
-        print::text(streams.out, line)?;
-        print::text(streams.out, b"\n")?;
-        start(streams, line, &rest[..size])?;
+        streams.out.write_all(line)?;
+        streams.out.write_all(b"\n")?;
+        run(streams, line, &rest[..size])?;
         at = at + line.len() + 1 + size;
     }
     Ok(())
@@ -177,7 +110,7 @@ fn run_list(streams: Streams, text: &[u8]) -> io::Result<()> {
         );
     }
     if !begins_case(words::before(text, b'\n')) {
-        return print::bad_line(streams, b"", 1, forms::NO_CASE);
+        return print::bad_line(streams, b"", 1, Wrong::NoCase);
     }
     run_cases(streams, text)
 }
@@ -190,28 +123,19 @@ enum Asked {
     Nothing,
 }
 
-fn is_cases(argument: Result<usize, FillError>, word: &[u8]) -> bool {
-    match argument {
-        Ok(n) => words::is(words::head(word, n), b"cases"),
-        Err(_) => false,
-    }
-}
-
 fn read_arguments(rt: &impl Env) -> Asked {
-    let mut word = [0u8; 16];
+    let mut word = [0u8; 5];
     let mut more = [0u8; 1];
     let first = rt.arg(1, &mut word);
     let second = rt.arg(2, &mut more);
-    if matches!(first, Err(FillError::NotPresent)) {
-        return Asked::Script;
+    match (first, second) {
+        (Err(FillError::NotPresent), _) => Asked::Script,
+        (Ok(5), Err(FillError::NotPresent)) if word == *b"cases" => Asked::Cases,
+        _ => Asked::Nothing,
     }
-    if matches!(second, Err(FillError::NotPresent)) & is_cases(first, &word) {
-        return Asked::Cases;
-    }
-    Asked::Nothing
 }
 
-// Room for one byte more than the longest script.
+// Room for one byte more than the longest script. Apart from `main`, where antt runs out of stack over so long a literal.
 fn room() -> [u8; 1048577]
     ensures { 1048577 ≡ length result }
 {
@@ -220,7 +144,7 @@ fn room() -> [u8; 1048577]
 
 fn run_asked(streams: Streams, asked: Asked, text: &[u8]) -> io::Result<()> {
     match asked {
-        Asked::Script => start(streams, b"", text),
+        Asked::Script => run(streams, b"", text),
         Asked::Cases => run_list(streams, text),
         Asked::Nothing => {
             streams.err.write_all(

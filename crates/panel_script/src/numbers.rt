@@ -1,105 +1,58 @@
 // Numbers read from words.
-ghost use Rattle.std.specs.Prelude.{◌≡◌, ◌<◌};
+ghost use Rattle.std.specs.Prelude.{◌≡◌, Some};
 ghost use mathlib.Core.List.{foldl};
-ghost use Rattle.panel_script.specs.Numbers.{digit_value, no_number, zero_number, next, decimal_of, hex_of};
+ghost use Rattle.panel_script.specs.Numbers.{digit_of, next, decimal_of, hex_of};
 
-// A number, or none: then it is 0 and not good.
-#[derive(Clone, Copy)]
-pub(crate) struct Number {
-    pub(crate) value: u64,
-    pub(crate) good: bool,
-}
-
-fn wide(n: u8) -> u64
-    ensures { result ≡ n }
+// What a digit stands for.
+pub(crate) fn digit(byte: u8) -> Option<u64>
+    ensures { result ≡ digit_of byte }
 {
-    n as u64
-}
-
-fn none() -> Number
-    ensures { result ≡ no_number }
-{
-    Number {
-        value: 0,
-        good: false,
+    match byte {
+        b'0'..=b'9' => Some(u64::from(byte - b'0')),
+        b'a'..=b'f' => Some(u64::from(byte - b'a') + 10),
+        _ => None,
     }
 }
 
-// What a digit stands for, 16 for any other byte.
-pub(crate) fn digit(byte: u8) -> u64
-    ensures { result ≡ digit_value byte }
+// The number with one digit more, if the byte is a digit to this base and the number stays at or below `most`.
+fn with_digit(n: u64, base: u64, most: u64, byte: u8) -> Option<u64>
+    ensures { result ≡ next base most (Some n) byte }
 {
-    if byte < 48 {
-        return 16;
-    }
-    if byte < 58 {
-        return wide(byte - 48);
-    }
-    if byte < 97 {
-        return 16;
-    }
-    if byte < 103 {
-        return wide(byte - 87);
-    }
-    16
-}
-
-// The number with one digit more, while it stays at or below `most`.
-fn with_digit(n: Number, base: u64, most: u64, byte: u8) -> Number
-    requires { 0 < base }
-    ensures { result ≡ next base most n byte }
-{
-    let d = digit(byte);
-    if !n.good {
-        return none();
-    }
-    if base <= d {
-        return none();
-    }
-    if most < d {
-        return none();
-    }
-    if (most - d) / base < n.value {
-        return none();
-    }
-    Number {
-        value: n.value * base + d,
-        good: true,
+    let d = digit(byte)?;
+    let more = n.checked_mul(base)?.checked_add(d)?;
+    if d < base && more <= most {
+        Some(more)
+    } else {
+        None
     }
 }
 
-fn read(word: &[u8], base: u64, most: u64) -> Number
-    requires { 0 < base }
-    ensures { result ≡ foldl (next base most) zero_number word.now }
+fn read(word: &[u8], base: u64, most: u64) -> Option<u64>
+    ensures { result ≡ foldl (next base most) (Some 0) word.now }
 {
-    let mut n = Number {
-        value: 0,
-        good: true,
-    };
-    let mut i = 0;
-    while i < word.len() {
-        n = with_digit(n, base, most, word[i]);
-        i += 1;
+    let mut n = 0;
+    for byte in word {
+        n = with_digit(n, base, most, *byte)?;
     }
-    n
+    Some(n)
 }
 
 // One or more decimal digits whose value is at most `most`.
-pub(crate) fn decimal(word: &[u8], most: u64) -> Number
+pub(crate) fn decimal(word: &[u8], most: u64) -> Option<u64>
     ensures { result ≡ decimal_of most word.now }
 {
-    if word.len() == 0 {
-        return none();
+    if word.is_empty() {
+        return None;
     }
     read(word, 10, most)
 }
 
 // So many lower-case hex digits, whose value fits 64 bits.
-pub(crate) fn hex(word: &[u8], digits: usize) -> Number
+pub(crate) fn hex(word: &[u8], digits: usize) -> Option<u64>
     ensures { result ≡ hex_of digits word.now }
 {
     if word.len() != digits {
-        return none();
+        return None;
     }
     read(word, 16, u64::MAX)
 }

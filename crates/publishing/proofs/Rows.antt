@@ -1,4 +1,5 @@
 -- What a publish does to each pixel of the frame, and to the panel.
+use Rattle.std.specs.Prelude.{Option, Some, None}
 use Prim.Native.Nat.{ℕ, ◌+◌, ◌-◌, ◌*◌, ◌/◌, ◌%◌, ◌≤◌, ◌<◌}
 use mathlib.Core.Path.{◌≡◌, refl, sym, ap, ◌∙◌}
 use mathlib.Core.Bool.{Bool, true, false, cond, ◌&&◌}
@@ -9,8 +10,6 @@ use lib.Dec.{leb, eqb}
 use lib.ListN.{length, get_or, length-append, length-take, length-drop}
 use lib.Seq.{ext_get_or}
 use Rattle.marks.specs.Rows.{in_span, no_rows, is_marked, span_of, span_bad, marks_bad}
-use Rattle.marks.specs.declared.Span.{Span}
-use Rattle.marks.specs.declared.Span.TheVariants.{Nothing, Rows}
 use Rattle.marks.specs.declared.Marks.{Marks}
 use Rattle.marks.proofs.Laws.{marked-span, bad-span}
 use Rattle.st7789.specs.declared.St7789p3.{St7789p3}
@@ -38,26 +37,26 @@ module _ (memory frame : List ℕ) (m : length memory ≡ 76800) (f : length fra
 
     row_copied :
         get_or (copied first last memory frame) (row * 240 + column) 0 ≡
-        cond (in_span row (Rows first last)) (get_or memory (row * 240 + column) 0) (get_or frame (row * 240 + column) 0)
+        cond (in_span row (Some (first, last))) (get_or memory (row * 240 + column) 0) (get_or frame (row * 240 + column) 0)
     row_copied = ap (λ l. get_or l (row * 240 + column) 0) (copied-stretch first last memory frame up) ∙ by_tests (leb first row) (leb row last) refl refl
 
-  length-spanned : (span : Span) → span_bad span ≡ false → length (span_copied span memory frame) ≡ 76800
-  length-spanned Nothing b = f
-  length-spanned (Rows first last) b =
-      let t = span-rows {span = Rows first last} {first = first} {last = last} refl refl refl b in
+  length-spanned : (span : Option (ℕ × ℕ)) → span_bad span ≡ false → length (span_copied span memory frame) ≡ 76800
+  length-spanned None b = f
+  length-spanned (Some (first, last)) b =
+      let t = span-rows {span = Some (first, last)} {first = first} {last = last} refl refl refl b in
       simp (length-append, length-take, length-drop) (omega (arith, t.0, t.1, m, f))
 
   -- After publishing, a row in the span is memory's and any other is as before.
   pub row-published :
-      (span : Span) → span_bad span ≡ false → (row column : ℕ) → column < 240 →
+      (span : Option (ℕ × ℕ)) → span_bad span ≡ false → (row column : ℕ) → column < 240 →
       get_or (span_copied span memory frame) (row * 240 + column) 0 ≡
       cond (in_span row span) (get_or memory (row * 240 + column) 0) (get_or frame (row * 240 + column) 0)
-  row-published Nothing b row column h = refl
-  row-published (Rows first last) b row column h =
-      let t = span-rows {span = Rows first last} {first = first} {last = last} refl refl refl b in
+  row-published None b row column h = refl
+  row-published (Some (first, last)) b row column h =
+      let t = span-rows {span = Some (first, last)} {first = first} {last = last} refl refl refl b in
       row_copied first last t.0 t.1 row column h
 
-  module _ (span : Span) (fine : span_bad span ≡ false) where
+  module _ (span : Option (ℕ × ℕ)) (fine : span_bad span ≡ false) where
     abbrev Alike : Type 0
     Alike = (row column : ℕ) → column < 240 → in_span row span ≡ false → get_or frame (row * 240 + column) 0 ≡ get_or memory (row * 240 + column) 0
 

@@ -1,9 +1,7 @@
 -- Rules: 01, "Publish copies the span's rows to the frame, other rows stay, answers span and six flags (powered, sleeping, inverted,
 -- display on, switch, duty), and empties the span."
-use Rattle.std.specs.Prelude.{ℕ, ◌+◌, ◌-◌, ◌*◌, false, List, ◌++◌, take, drop}
+use Rattle.std.specs.Prelude.{ℕ, ◌+◌, ◌-◌, ◌*◌, false, List, ◌++◌, take, drop, Option, Some, None}
 use Rattle.marks.specs.Rows.{no_rows, span_of}
-use Rattle.marks.specs.declared.Span.{Span}
-use Rattle.marks.specs.declared.Span.TheVariants.{Nothing, Rows}
 use Rattle.st7789.specs.Parts.{with_controller, with_marks}
 use Rattle.st7789.specs.Refusals.{bad_state}
 use Rattle.status.specs.Numbers.{unless_refused}
@@ -19,9 +17,9 @@ copied first last memory frame =
     ++ (take ((last + 1 - first) * 240) (drop (first * 240) memory) ++ drop ((last + 1) * 240) frame)
 
 -- The same by a span: an empty one copies nothing.
-abbrev pub span_copied : Span → List ℕ → List ℕ → List ℕ
-span_copied Nothing memory frame = frame
-span_copied (Rows first last) memory frame = copied first last memory frame
+abbrev pub span_copied : Option (ℕ × ℕ) → List ℕ → List ℕ → List ℕ
+span_copied None memory frame = frame
+span_copied (Some (first, last)) memory frame = copied first last memory frame
 
 -- The refusal of a publish.
 unfoldable pub publish_refusal : St7789p3 → ℕ → ℕ → ℕ
@@ -45,8 +43,8 @@ no_flags =
     record { powered = false; sleeping = false; inverted = false; display_on = false; invon_shows_ram = false; duty = 0 }
 
 -- "answers span"; refused, "no value".
-unfoldable pub published_span : ℕ → St7789p3 → Span
-published_span refusal s = unless_refused refusal (span_of s.controller.marks) Nothing
+unfoldable pub published_span : ℕ → St7789p3 → Option (ℕ × ℕ)
+published_span refusal s = unless_refused refusal (span_of s.controller.marks) None
 
 -- "answers .. six flags"; refused, "no value".
 unfoldable pub published_flags : ℕ → St7789p3 → Flags

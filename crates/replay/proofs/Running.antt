@@ -5,6 +5,7 @@ use mathlib.Core.List.{List, foldl}
 use lib.ListN.{length, drop}
 use Rattle.logs.specs.Log.{segments, head_at}
 use Rattle.logs.specs.declared.Head.{Head}
+use Rattle.logs.proofs.Heads.{head-within}
 use Rattle.logs.proofs.Walks.{segment_in, walk-next, walk-last}
 use Rattle.st7789.specs.Entries.{fresh_panel}
 use Rattle.st7789.specs.declared.St7789p3.{St7789p3}
@@ -29,3 +30,5 @@ module _ {log : List ℕ} {s : St7789p3} {at : ℕ} (p : Running log s at) where
 
   pub running-last : length log ≤ at → s ≡ replayed log
   running-last l = ap (foldl sent s) (sym (walk-last log at l)) ∙ p.left
+
+pub ruleset running = (running-first, running-next, running-last, head-within, walk-next)

@@ -1,4 +1,5 @@
 -- How long the report can get: 17,801 bytes hold it in every state that is not bad.
+use Rattle.std.specs.Prelude.{Option, Some, None}
 use Prim.Native.Nat.{ℕ, ◌+◌, ◌*◌, ◌≤◌}
 use mathlib.Core.Path.{◌≡◌}
 use mathlib.Core.Bool.{Bool, true, false, cond}
@@ -11,14 +12,12 @@ use lib.ListN.{length, length-append, length-take}
 use Rattle.geometry.specs.declared.Window.{Window}
 use Rattle.geometry.specs.declared.Pointer.{Pointer}
 use Rattle.marks.specs.Rows.{span_of}
-use Rattle.marks.specs.declared.Span.{Span}
-use Rattle.marks.specs.declared.Span.TheVariants.{Nothing, Rows}
 use Rattle.lists.specs.Fixed.{used}
 use Rattle.lists.specs.Params.{listed}
 use Rattle.lists.specs.Entries.{some, record_long}
 use Rattle.lists.specs.declared.TraceRecord.{TraceRecord}
 use Rattle.lists.specs.declared.Warning.{Warning}
-use Rattle.lists.proofs.Bools.{neither}
+use Rattle.std.proofs.lemmas.Bool.{or_parts}
 use Rattle.chip.specs.declared.Registers.{Registers}
 use Rattle.st7789.specs.Parts.{trace_of, warnings_of}
 use Rattle.st7789.specs.Refusals.{bad_state}
@@ -75,10 +74,10 @@ cnt-most n warned =
     let h = line-most (ascii "cnt") (n.commands ∷ n.ramwr_count ∷ n.pixels_written ∷ n.dropped_params ∷ warned ∷ []) in
     omega arith
 
-dirty-most : (d : Span) → length (dirty_line d) ≤ 48
+dirty-most : (d : Option (ℕ × ℕ)) → length (dirty_line d) ≤ 48
 unfolding dirty_line
-dirty-most Nothing = let h = line-most (ascii "dirty none") [] in omega arith
-dirty-most (Rows first last) = let h = line-most (ascii "dirty") (first ∷ last ∷ []) in omega arith
+dirty-most None = let h = line-most (ascii "dirty none") [] in omega arith
+dirty-most (Some (first, last)) = let h = line-most (ascii "dirty") (first ∷ last ∷ []) in omega arith
 
 boot-most : (step : ℕ) → length (boot_line step) ≤ 26
 unfolding boot_line
@@ -110,7 +109,7 @@ traces-most : (l : List TraceRecord) → some record_long l ≡ false → length
 unfolding texts
 traces-most [] e = omega arith
 traces-most (r ∷ l) e =
-    let h = neither (record_long r) (some record_long l) e in
+    let h = or_parts (record_long r) (some record_long l) e in
     let one = trace-most r h.0 in
     let rest = traces-most l h.1 in
     simp (length-append) (omega arith)

@@ -1,10 +1,8 @@
 -- Rules: 01, "The log and its program": what the program prints of a panel.
-use Rattle.std.specs.Prelude.{ℕ, Bool, cond, List, [], ◌∷◌, ◌++◌, eqb}
+use Rattle.std.specs.Prelude.{ℕ, Bool, cond, List, [], ◌∷◌, ◌++◌, eqb, Option, Some, None}
 use Rattle.geometry.specs.declared.Window.{Window}
 use Rattle.geometry.specs.declared.Pointer.{Pointer}
 use Rattle.marks.specs.Rows.{span_of}
-use Rattle.marks.specs.declared.Span.{Span}
-use Rattle.marks.specs.declared.Span.TheVariants.{Nothing, Rows}
 use Rattle.lists.specs.Fixed.{used}
 use Rattle.chip.specs.declared.Registers.{Registers}
 use Rattle.st7789.specs.Parts.{trace_of, warnings_of}
@@ -37,9 +35,9 @@ cnt_line n warned =
     line (ascii "cnt") (n.commands ∷ n.ramwr_count ∷ n.pixels_written ∷ n.dropped_params ∷ warned ∷ [])
 
 -- "dirty: first, last, or `none`."
-unfoldable pub dirty_line : Span → List ℕ
-dirty_line Nothing = line (ascii "dirty none") []
-dirty_line (Rows first last) = line (ascii "dirty") (first ∷ last ∷ [])
+unfoldable pub dirty_line : Option (ℕ × ℕ) → List ℕ
+dirty_line None = line (ascii "dirty none") []
+dirty_line (Some (first, last)) = line (ascii "dirty") (first ∷ last ∷ [])
 
 -- "boot: step, or `ok`."
 unfoldable pub boot_line : ℕ → List ℕ

@@ -1,29 +1,24 @@
 // What the program prints of a panel, as text in a lent buffer. What does not fit is left out.
 #![tactic(auto)]
 
-ghost use Rattle.std.specs.Prelude.{◌≡◌, take};
-ghost use Rattle.text.specs.Text.{appended};
-ghost use Rattle.report.specs.Report.{flag, regs_line, win_line, cnt_line, dirty_line, boot_line, state_lines, report};
-ghost use Rattle.boot.specs.Boot.{compared, step_of};
+ghost use Rattle.std.specs.Prelude.{◌≡◌};
+ghost use Rattle.text.specs.Text.{appended, Put};
+ghost use Rattle.report.specs.Report.{regs_line, win_line, cnt_line, dirty_line, boot_line, state_lines, report};
 
 use chip::Registers;
 use geometry::{Pointer, Window};
 pub use listing::{put_params, put_record, put_warnings};
-use lists::{PLACES, TraceRecord};
-use marks::Span;
 use st7789::{Controller, Counts, St7789p3};
 
-fn number(on: bool) -> u64
-    ensures { result ≡ flag on }
-{
-    if on { 1 } else { 0 }
-}
-
+#[tactic(auto, using(text::proofs::Text::joined), unfolding(crate::specs::Report::regs_line))]
 fn put_regs(out: &mut [u8], at: usize, r: Registers) -> usize
-    ensures value { result ≡ (appended out.old at (regs_line r)).count }
-    ensures out_after { out.new ≡ (appended out.old at (regs_line r)).places }
+    ensures { Put out.old at (regs_line r) result out.new }
 {
-    let flags = [number(r.sleeping), number(r.display_on), number(r.inverted)];
+    let flags = [
+        u64::from(r.sleeping),
+        u64::from(r.display_on),
+        u64::from(r.inverted),
+    ];
     let codes = [r.madctl, r.colmod, r.ramctrl0, r.ramctrl1];
     let named = text::put_bytes(out, at, b"regs");
     let flagged = lines::put_numbers(out, named, &flags);
@@ -31,99 +26,76 @@ fn put_regs(out: &mut [u8], at: usize, r: Registers) -> usize
     text::put_byte(out, coded, b'\n')
 }
 
+#[tactic(auto, using(text::proofs::Text::joined), unfolding(crate::specs::Report::win_line))]
 fn put_win(out: &mut [u8], at: usize, w: Window, p: Pointer) -> usize
-    ensures value { result ≡ (appended out.old at (win_line w p)).count }
-    ensures out_after { out.new ≡ (appended out.old at (win_line w p)).places }
+    ensures { Put out.old at (win_line w p) result out.new }
 {
-    let ns = [
-        w.xs as u64,
-        w.xe as u64,
-        w.ys as u64,
-        w.ye as u64,
-        p.x as u64,
-        p.y as u64,
-    ];
+    let ns = [w.xs, w.xe, w.ys, w.ye, p.x, p.y].map(u64::from);
     lines::put_line(out, at, b"win", &ns)
 }
 
+#[tactic(auto, using(text::proofs::Text::joined), unfolding(crate::specs::Report::cnt_line))]
 fn put_cnt(out: &mut [u8], at: usize, n: Counts, warned: u8) -> usize
-    ensures value { result ≡ (appended out.old at (cnt_line n warned)).count }
-    ensures out_after { out.new ≡ (appended out.old at (cnt_line n warned)).places }
+    ensures { Put out.old at (cnt_line n warned) result out.new }
 {
     let ns = [
         n.commands,
         n.ramwr_count,
         n.pixels_written,
         n.dropped_params,
-        warned as u64,
+        u64::from(warned),
     ];
     lines::put_line(out, at, b"cnt", &ns)
 }
 
-fn put_dirty(out: &mut [u8], at: usize, dirty: Span) -> usize
-    ensures value { result ≡ (appended out.old at (dirty_line dirty)).count }
-    ensures out_after { out.new ≡ (appended out.old at (dirty_line dirty)).places }
+#[tactic(auto, using(text::proofs::Text::joined), unfolding(crate::specs::Report::dirty_line))]
+fn put_dirty(out: &mut [u8], at: usize, dirty: Option<(u16, u16)>) -> usize
+    ensures { Put out.old at (dirty_line dirty) result out.new }
 {
     match dirty {
-        Span::Nothing => lines::put_line(out, at, b"dirty none", &[]),
-        Span::Rows(first, last) => {
-            let ns = [first as u64, last as u64];
+        None => lines::put_line(out, at, b"dirty none", &[]),
+        Some((first, last)) => {
+            let ns = [first, last].map(u64::from);
             lines::put_line(out, at, b"dirty", &ns)
         }
     }
 }
 
+// The boot line. `step` is 01's number of the answer, 0 for a match, as `boot_line` takes it, so no Option.
+#[tactic(auto, using(text::proofs::Text::joined), unfolding(crate::specs::Report::boot_line))]
 fn put_boot(out: &mut [u8], at: usize, step: u8) -> usize
-    ensures value { result ≡ (appended out.old at (boot_line step)).count }
-    ensures out_after { out.new ≡ (appended out.old at (boot_line step)).places }
+    ensures { Put out.old at (boot_line step) result out.new }
 {
     if step == 0 {
         return lines::put_line(out, at, b"boot ok", &[]);
     }
-    lines::put_line(out, at, b"boot", &[step as u64])
+    lines::put_line(out, at, b"boot", &[u64::from(step)])
 }
 
 // The lines of which there is one each.
+#[tactic(auto, using(text::proofs::Text::joined), unfolding(crate::specs::Report::state_lines))]
 fn put_state(out: &mut [u8], controller: Controller, step: u8) -> usize
-    ensures value { result ≡ (appended out.old 0 (state_lines controller step)).count }
-    ensures out_after { out.new ≡ (appended out.old 0 (state_lines controller step)).places }
+    ensures { Put out.old 0 (state_lines controller step) result out.new }
 {
     let chip = controller.chip;
-    let registers = chip.registers;
-    let window = chip.window;
-    let walk = chip.walk;
-    let pointer = walk.pointer;
-    let counts = controller.counts;
-    let warned = controller.logs.warned;
-    let marks = controller.marks;
-    let dirty = marks.span();
-    let told = put_regs(out, 0, registers);
-    let placed = put_win(out, told, window, pointer);
-    let counted = put_cnt(out, placed, counts, warned);
-    let marked = put_dirty(out, counted, dirty);
+    let told = put_regs(out, 0, chip.registers);
+    let placed = put_win(out, told, chip.window, chip.walk.pointer);
+    let counted = put_cnt(out, placed, controller.counts, controller.logs.warned);
+    let marked = put_dirty(out, counted, controller.marks.span());
     put_boot(out, marked, step)
 }
 
-// The number of the first step at which a trace leaves the boot sequence, 0 where it does not.
-fn boot_step(records: [TraceRecord; PLACES], traced: u8) -> u8
-    ensures { result ≡ step_of (compared (take traced records)).check }
-{
-    let compared = boot::trace_mismatch(records, traced);
-    let check = compared.check;
-    check.number()
-}
-
 // What 01's program prints of a panel, from the buffer's start on; the answer is how much of the buffer it takes.
+#[tactic(auto, using(text::proofs::Text::joined), unfolding(crate::specs::Report::report))]
 pub fn write_report(panel: St7789p3, out: &mut [u8]) -> usize
     ensures answer { result ≡ (appended out.old 0 (report panel)).count }
     ensures lent { out.new ≡ (appended out.old 0 (report panel)).places }
 {
-    let controller = panel.controller;
-    let logs = controller.logs;
-    let records = panel.records;
-    let warnings = panel.warnings;
-    let step = boot_step(records, logs.traced);
-    let told = put_state(out, controller, step);
-    let listed = listing::put_warnings(out, told, warnings, logs.warned);
-    listing::put_trace(out, listed, records, logs.traced)
+    let logs = panel.controller.logs;
+    let step = boot::trace_mismatch(panel.records, logs.traced)
+        .check
+        .number();
+    let told = put_state(out, panel.controller, step);
+    let listed = listing::put_warnings(out, told, panel.warnings, logs.warned);
+    listing::put_trace(out, listed, panel.records, logs.traced)
 }

@@ -6,7 +6,7 @@ use native.Mathlib.Omega.{arith}
 use borrow.Author.Tests.{ltb-false, eqb-true}
 use lib.Dec.{eqb}
 use lib.ListN.{get_or}
-use Rattle.lists.proofs.Bools.{both}
+use Rattle.std.proofs.lemmas.Bool.{and_parts}
 use Rattle.lists.proofs.Somes.{each-fails}
 use Rattle.status.specs.Numbers.{unless_refused}
 use Rattle.status.specs.Tests.{high, transfer_row}
@@ -68,7 +68,7 @@ module _ {n refusal : ℕ} {ok : Bool} (en : n ≡ refusal) (eo : ok ≡ eqb n 0
 module _ {n refusal : ℕ} {ok r rail : Bool} (en : n ≡ refusal) (eo : ok ≡ eqb n 0) (er : r ≡ rail) where
   pub renewed : {A : Type 0} {new x : A} (old : A) → ok && r ≡ true → x ≡ new → x ≡ unless_refused refusal (cond rail new old) old
   renewed {A} {new} {x} old h e =
-      let t = both ok r h in
+      let t = and_parts ok r h in
       new-left en eo old t.0 (e ∙ ap (λ b. cond b new old) (sym t.1 ∙ er))
 
   pub kept : {A : Type 0} (new old : A) → ok && r ≡ false → old ≡ unless_refused refusal (cond rail new old) old

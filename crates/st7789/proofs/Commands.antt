@@ -1,11 +1,12 @@
 -- A command's begin: the loop over the rules that it breaks, and the loop over a segment of commands.
+use Rattle.std.specs.Prelude.{Some, None}
 use Prim.Native.Nat.{ℕ, ◌+◌, ◌-◌, ◌^◌, ◌≤◌, ◌<◌, min}
 use mathlib.Core.Path.{◌≡◌, refl, sym, ap, ◌∙◌}
-use mathlib.Core.Bool.{Bool, true, false, cond, ◌&&◌}
+use mathlib.Core.Bool.{Bool, true, false, cond}
 use mathlib.Core.List.{List, [], ◌∷◌, map, foldl}
 use native.Mathlib.Numerals.{add-one}
 use native.Mathlib.Omega.{arith}
-use borrow.Author.Tests.{lt-ltb, le-ltb, ltb-true, ltb-false}
+use borrow.Author.Tests.{ltb-false}
 use lib.Dec.{ltb}
 use lib.ListN.{length, set, get_or, take, drop, length-take, length-drop, drop_of_length-le}
 use lib.Seq.{drop-cons, take_all}
@@ -15,8 +16,7 @@ use Rattle.lists.specs.Fixed.{Fixed, places, push, push_all}
 use Rattle.lists.specs.declared.Stored.{Stored}
 use Rattle.lists.specs.declared.TraceRecord.{TraceRecord}
 use Rattle.lists.specs.declared.Warning.{Warning}
-use Rattle.lists.specs.declared.Current.TheVariants.{Nothing, At}
-use Rattle.lists.proofs.Bools.{both, neither}
+use Rattle.std.proofs.lemmas.Bool.{or_parts}
 use Rattle.lists.proofs.Fixed.{full}
 use Rattle.lists.proofs.Putting.{put-free, put-none}
 use Rattle.timing.specs.Lint.{rules_of}
@@ -28,14 +28,6 @@ use Rattle.st7789.specs.declared.Controller.{Controller}
 use Rattle.st7789.specs.declared.Counts.{Counts}
 use Rattle.st7789.specs.declared.Logs.{Logs}
 use Rattle.st7789.specs.declared.St7789p3.{St7789p3}
-
--- The test of a place that was asked for.
-pub free-told : (n : ℕ) {at : ℕ} → at ≡ min n places → ltb at places ≡ ltb n places
-free-told n {at} e = by-test (ltb n places) refl
-  where
-    by-test : (b : Bool) → ltb n places ≡ b → ltb at places ≡ b
-    by-test true t = lt-ltb at places (omega (arith, e, ltb-true n places t))
-    by-test false t = le-ltb at places (omega (arith, e, ltb-false n places t))
 
 -- Equal parts make equal panels.
 pub same-panel :
@@ -56,12 +48,6 @@ module _ (s : St7789p3) {at : ℕ} (e : at ≡ min s.controller.logs.traced plac
 
   pub record-full : (y : TraceRecord) → places ≤ at → s.records ≡ records_with y
   record-full y h = ap (λ (f : Fixed TraceRecord). f.places) (put-none places s.controller.logs.traced e s.records y h)
-
--- The test of the loop over the broken rules.
-pub within_both : {n : ℕ} (k at : ℕ) {m : ℕ} → m ≡ n → ltb k m && ltb at places ≡ true → (k < n) × (at < places)
-within_both {n} k at {m} e h =
-    let t = both (ltb k m) (ltb at places) h in
-    (rw e at (ltb-true k m t.0), ltb-true at places t.1)
 
 -- The loop over the broken rules: s is what s₀ became by the first k of them. Nothing but the warnings is another.
 pub record Kept (w : ℕ → Warning) (rules : List ℕ) (s₀ s : St7789p3) (k : ℕ) : Type 0 where
@@ -84,22 +70,10 @@ module _ {w : ℕ → Warning} {rules : List ℕ} {s₀ : St7789p3} where
         rest = λ f. same f ∙ u.rest f;
       }
 
-  pub kept-counts : {s : St7789p3} {k : ℕ} → Kept w rules s₀ s k → s.controller.counts ≡ s₀.controller.counts
-  kept-counts {s} u = ap (λ (s : St7789p3). s.controller.counts) (u.rest (warnings_of s))
-
-  -- It ends with the rules, or with the places.
+  -- It ends with the rules.
   pub kept-last :
-      {s : St7789p3} {k at m : ℕ} → Kept w rules s₀ s k → at ≡ min s.controller.logs.warned places → m ≡ length rules →
-      ltb k m && ltb at places ≡ false → s ≡ with_warnings (push_all places (warnings_of s₀) (map w rules)) s₀
-  kept-last {s} {k} {at} {m} u e em h = ap (λ f. with_warnings f s) (by-test (ltb k m) refl h) ∙ u.rest _
-    where
-      by-test : (b : Bool) → ltb k m ≡ b → b && ltb at places ≡ false → warnings_of s ≡ push_all places (warnings_of s₀) (map w rules)
-      by-test true eb f =
-          let full-up : places ≤ s.controller.logs.warned = omega (arith, e, ltb-false at places f) in
-          sym (full places (warnings_of s) (map w (drop k rules)) full-up) ∙ u.left
-      by-test false eb f =
-          let past : length rules ≤ k = omega (arith, em, ltb-false k m eb) in
-          rw (drop_of_length-le rules past) at u.left
+      {s : St7789p3} {k : ℕ} → Kept w rules s₀ s k → length rules ≤ k → s ≡ with_warnings (push_all places (warnings_of s₀) (map w rules)) s₀
+  kept-last {s} u past = ap (λ f. with_warnings f s) (rw (drop_of_length-le rules past) at u.left) ∙ u.rest _
 
 module _ (c t : ℕ) where
   -- A command begun, put together from the rules that it broke, the controller and the records.
@@ -119,17 +93,17 @@ module _ (c t : ℕ) where
       (s : St7789p3) → any_free s.controller.logs ≡ false → begun c t s ≡ with_controller (controller_begun c t s.controller) s
   unfolding begun
   begun-quiet s e =
-      let n = neither (ltb s.controller.logs.traced places) (ltb s.controller.logs.warned places) e in
+      let n = or_parts (ltb s.controller.logs.traced places) (ltb s.controller.logs.warned places) e in
       let kept : linted c t s ≡ warnings_of s = full places (warnings_of s) (warnings_for c t s.controller) (ltb-false s.controller.logs.warned places n.1) in
       ap (λ f. after_lint c t (with_warnings f s)) kept ∙ same-panel refl refl (rw n.0) refl
 
   pub still-quiet : (k : Controller) → any_free k.logs ≡ false → any_free (controller_begun c t k).logs ≡ false
   still-quiet k e =
-      let n = neither (ltb k.logs.traced places) (ltb k.logs.warned places) e in
+      let n = or_parts (ltb k.logs.traced places) (ltb k.logs.warned places) e in
       ap
       (λ b. any_free
-      (cond {A = Logs} b (record { traced = k.logs.traced + 1; warned = k.logs.warned; current = At k.logs.traced })
-      (record { traced = k.logs.traced; warned = k.logs.warned; current = Nothing })))
+      (cond {A = Logs} b (record { traced = k.logs.traced + 1; warned = k.logs.warned; current = Some k.logs.traced })
+      (record { traced = k.logs.traced; warned = k.logs.warned; current = None })))
       n.0
       ∙ e
 
@@ -169,15 +143,6 @@ module _ {S : Type 0} {step : S → ℕ → S} {counts : S → Counts} {bytes : 
         ramwrs = rw ec (omega (arith, u.ramwrs, one_more (is (kind_of (get_or bytes i 0)) Ramwr) (counts s).ramwr_count));
         left = ap (λ x. foldl step x (drop (i + 1) bytes)) e ∙ rw (add-one i) (rw (drop-cons bytes i 0 h) at u.left);
       }
-
-  -- One command more can be counted.
-  pub turn-room :
-      {s : S} {i : ℕ} {n : Counts} → Turn step counts bytes s₀ s i → i < length bytes → n ≡ counts s →
-      (n.commands + 1 < 2 ^ 64) × (n.ramwr_count + 1 < 2 ^ 64)
-  turn-room u h e = (
-    omega (arith, u.commands, ap (λ (n : Counts). n.commands) e),
-    omega (arith, u.ramwrs, ap (λ (n : Counts). n.ramwr_count) e),
-  )
 
   pub turn_last : {s : S} {i : ℕ} → Turn step counts bytes s₀ s i → length bytes ≤ i → s ≡ foldl step s₀ bytes
   turn_last u h = rw (drop_of_length-le bytes h) at u.left
@@ -231,11 +196,11 @@ none-past bytes = let e : length bytes ≤ length bytes = omega arith in drop_of
 -- Where commands go together no place is free, and so none leaves a warning.
 module _ (s : St7789p3) (quiet : alone s.controller ≡ false) where
   none_free : any_free s.controller.logs ≡ false
-  none_free = (neither (any_free s.controller.logs) (waits s.controller.chip.walk.carry) quiet).0
+  none_free = (or_parts (any_free s.controller.logs) (waits s.controller.chip.walk.carry) quiet).0
 
   none-warned : (ws : List Warning) → with_warnings (push_all places (warnings_of s) ws) s ≡ s
   none-warned ws =
-      let n = neither (ltb s.controller.logs.traced places) (ltb s.controller.logs.warned places) none_free in
+      let n = or_parts (ltb s.controller.logs.traced places) (ltb s.controller.logs.warned places) none_free in
       ap (λ w. with_warnings w s) (full places (warnings_of s) ws (ltb-false s.controller.logs.warned places n.1))
 
 -- What one turn leaves: a command, or all that are left where they go together.
@@ -272,7 +237,7 @@ module _ (t : ℕ) {bytes : List ℕ} {s₀ s : St7789p3} {i : ℕ} (u : PanelTu
           (panel-next t u h
           (begun-put (get_or bytes i 0) t s eb es (ek ∙ ap (λ l. controller_begun_all t l s'.controller) (part-one bytes i end h e)) er))
       by-test false f e =
-          let n = neither (ltb s.controller.logs.traced places) (ltb s.controller.logs.warned places) (none_free s f) in
+          let n = or_parts (ltb s.controller.logs.traced places) (ltb s.controller.logs.warned places) (none_free s f) in
           let same : s' ≡ s = es ∙ none-warned s f (map (warning (get_or bytes i 0) t) (rules_of b)) in
           let full-trace : (push places (trace_of s) (begun_record (get_or bytes i 0) t)).places ≡ s.records = rw n.0 in
           let quiet : after_part s' k rs ≡ with_controller (controller_begun_all t (drop i bytes) s.controller) s =

@@ -1,12 +1,11 @@
 -- Data: the controller after it, put together from what the parts answer.
+use Rattle.std.specs.Prelude.{Option, Some, None}
 use Prim.Native.Nat.{ℕ, ◌+◌, ◌^◌, ◌≤◌, ◌<◌}
-use mathlib.Core.Path.{◌≡◌, sym, ap, ap₂, ◌∙◌}
+use mathlib.Core.Path.{◌≡◌, refl, sym, ap, ap₂, ◌∙◌}
 use mathlib.Core.Bool.{Bool, true, false, cond}
 use mathlib.Core.List.{List, []}
 use native.Mathlib.Omega.{arith}
 use lib.ListN.{length}
-use mir.Val.{Fits}
-use mir.Syntax.{w64}
 use Rattle.geometry.specs.declared.Site.{Site}
 use Rattle.pixels.specs.Run.{stores, written, no_totals, together, walked_on, unwalked}
 use Rattle.pixels.specs.declared.Totals.{Totals}
@@ -17,12 +16,10 @@ use Rattle.codes.specs.declared.Command.{Command}
 use Rattle.lists.specs.Params.{excess}
 use Rattle.chip.specs.Apply.{chip_taken}
 use Rattle.chip.specs.Site.{site_of, chip_stores, chip_totals}
-use Rattle.chip.specs.declared.InForce.{InForce}
-use Rattle.chip.specs.declared.InForce.TheVariants.{Code}
 use Rattle.chip.specs.declared.Chip.{Chip}
 use Rattle.st7789.specs.Parts.{whole, with_chip, with_counts}
 use Rattle.st7789.specs.Data.{walk_over, walked_chip, pixels_added, dropped_added, ran, taken, taken_for, controller_data, stores_in, totals_in}
-use Rattle.st7789.specs.Places.{no_command, command_for, command_in}
+use Rattle.st7789.specs.Places.{command_for, command_in}
 use Rattle.st7789.specs.Room.{Countable}
 use Rattle.st7789.specs.declared.Counts.{Counts}
 use Rattle.st7789.specs.declared.Controller.{Controller}
@@ -53,12 +50,7 @@ module _ (k : Controller) (bytes : List ℕ) where
       let h : together w.totals ≤ length bytes = omega (arith, t, totals-few (site_of k.cfg.formats k.chip) k.chip.walk bytes) in
       (omega (arith, h, room.pixels), (omega (arith, h, room.inverted), omega (arith, h, room.unmapped)))
 
-  pub dropped-fit :
-      Countable (length bytes) k.counts → (n : ℕ) → n ≡ excess k.chip.decoder.params (length bytes) →
-      Fits w64 (k.counts.dropped_params + n)
-  dropped-fit room n e = record { fits = omega (arith, room.dropped) }
-
-  abbrev data_by : Bool → InForce → Controller
+  abbrev data_by : Bool → Option ℕ → Controller
   data_by b f = cond b (ran bytes k) (taken_for f bytes k)
 
   pub data-run :
@@ -72,20 +64,34 @@ module _ (k : Controller) (bytes : List ℕ) where
       ∙ ap (λ m. pixels_added m (chip_totals k.cfg.formats k.chip bytes) k.counts) (totals-counted (site_of k.cfg.formats k.chip) k.chip.walk bytes))
       ∙ ap (λ b. data_by b k.chip.decoder.cmd) (sym e)
 
-  pub data-lost : k.chip.decoder.in_pixels ≡ false → k.chip.decoder.cmd ≡ InForce.Nothing → k ≡ controller_data bytes k
-  data-lost e ec = ap₂ (λ b f. data_by b f) (sym e) (sym ec)
+  abbrev command_by : Bool → Option ℕ → Option Command
+  command_by b f = cond b None (command_for f)
 
-  -- The command in force, where no run is on.
-  pub command-for : {c : ℕ} → k.chip.decoder.in_pixels ≡ false → k.chip.decoder.cmd ≡ Code c → command_of c ≡ command_in k
-  command-for e ec = ap₂ (λ b f. cond b no_command (command_for f)) (sym e) (sym ec)
+  -- Where no run is on, data is for the command in force, or lost.
+  pub data-lost : k.chip.decoder.in_pixels ≡ false → None ≡ command_in k → k ≡ controller_data bytes k
+  data-lost e em = by_kind k.chip.decoder.cmd em' ∙ ap (λ b. data_by b k.chip.decoder.cmd) (sym e)
+    where
+      em' : None ≡ command_for k.chip.decoder.cmd
+      em' = em ∙ ap (λ b. command_by b k.chip.decoder.cmd) e
+
+      by_kind : (f : Option ℕ) → None ≡ command_for f → k ≡ taken_for f bytes k
+      by_kind None em = refl
+      by_kind (Some c) em = absurd (cc)
 
   pub data-for :
-      {c n : ℕ} {m : Command} {chip : Chip} → k.chip.decoder.in_pixels ≡ false → k.chip.decoder.cmd ≡ Code c → m ≡ command_in k →
+      {n : ℕ} {m : Command} {chip : Chip} → k.chip.decoder.in_pixels ≡ false → Some m ≡ command_in k →
       chip ≡ chip_taken m bytes k.chip → n ≡ excess k.chip.decoder.params (length bytes) → taken_by chip n k ≡ controller_data bytes k
   unfolding taken chip_taken
-  data-for e ec em ek en =
-      ap₂ (λ chip n. taken_by chip n k) (ek ∙ ap (λ m. chip_taken m bytes k.chip) (em ∙ sym (command-for e ec))) en
-      ∙ ap₂ (λ b f. data_by b f) (sym e) (sym ec)
+  data-for {n} {m} {chip} e em ek en = by_kind k.chip.decoder.cmd em' ∙ ap (λ b. data_by b k.chip.decoder.cmd) (sym e)
+    where
+      em' : Some m ≡ command_for k.chip.decoder.cmd
+      em' = em ∙ ap (λ b. command_by b k.chip.decoder.cmd) e
+
+      by_kind : (f : Option ℕ) → Some m ≡ command_for f → taken_by chip n k ≡ taken_for f bytes k
+      by_kind None em = absurd (cc)
+      by_kind (Some c) em =
+          let same : m ≡ command_of c = cc in
+          ap₂ (λ chip n. taken_by chip n k) (ek ∙ ap (λ m. chip_taken m bytes k.chip) same) en
 
   totals-by : Bool → Totals
   totals-by b = cond b (chip_totals k.cfg.formats k.chip bytes) no_totals

@@ -1,4 +1,5 @@
 -- A segment of data or of commands, and then the release: the panel, and the memory that was lent, if any.
+use Rattle.std.specs.Prelude.{Option, Some, None}
 use Prim.Native.Nat.{ℕ, ◌-◌, ◌≤◌, ◌<◌}
 use mathlib.Core.Path.{◌≡◌, refl, sym, ap, ap₂, ◌∙◌}
 use mathlib.Core.Bool.{Bool, true, false, cond}
@@ -6,33 +7,34 @@ use mathlib.Core.List.{List, [], ◌∷◌, append-nil}
 use native.Mathlib.Omega.{arith}
 use borrow.Rule.Slice.PartMut.{put_mid}
 use lib.Dec.{eqb}
-use lib.ListN.{length, set, take, drop, drop_of_length-le}
+use lib.ListN.{length, get_or, set, take, drop, drop_of_length-le}
 use lib.Seq.{take_all}
 use Rattle.pixels.specs.Run.{Store, written, no_totals}
 use Rattle.pixels.specs.declared.Totals.{Totals}
 use Rattle.codes.specs.Codes.{kind_of, command_of, place_of}
+use Rattle.codes.specs.declared.Command.{Command}
 use Rattle.codes.proofs.Numbering.{stored_one, none-stored}
 use Rattle.lists.specs.Params.{filled}
 use Rattle.lists.specs.declared.Params.{Params}
 use Rattle.lists.specs.declared.Stored.{Stored}
 use Rattle.lists.specs.declared.TraceRecord.{TraceRecord}
 use Rattle.chip.specs.Apply.{chip_taken}
-use Rattle.chip.specs.declared.InForce.{InForce}
-use Rattle.chip.specs.declared.InForce.TheVariants.{Code}
 use Rattle.chip.proofs.Cuts.{taken-params}
 use Rattle.status.specs.Numbers.{unless_refused}
 use Rattle.st7789.specs.Parts.{with_controller}
 use Rattle.st7789.specs.Command.{begun_all, controller_released, released}
-use Rattle.st7789.specs.Data.{on_current, record_data, ran, taken, taken_for, controller_data, stored_for, stored_data, data_in, stores_in, totals_in}
+use Rattle.st7789.specs.Data.{no_record, record_data, ran, taken, taken_for, controller_data, stored_for, stored_data, data_in, stores_in, totals_in}
 use Rattle.st7789.specs.Refusals.{transfer_refusal}
 use Rattle.st7789.specs.Entries.{moved, transferred, transfer_totals, bare_transferred, bare_totals, transfer_memory, refusal_with, transferred_with, totals_with, memory_with}
-use Rattle.st7789.specs.Places.{no_command, command_for, command_in, cells_for, end_for, stored_to}
+use Rattle.st7789.specs.Places.{current_place, if_current, command_for, command_in, cells_for, end_for, stored_to}
 use Rattle.st7789.specs.declared.PanelMemory.{PanelMemory}
 use Rattle.st7789.specs.declared.PanelMemory.TheVariants.{Lent, Without}
 use Rattle.st7789.specs.declared.Controller.{Controller}
 use Rattle.st7789.specs.declared.St7789p3.{St7789p3}
 use Rattle.st7789.proofs.Accepted.{bare}
 use Rattle.st7789.proofs.Commands.{same-panel}
+use Rattle.st7789.proofs.Tests.{put-here}
+use Rattle.st7789.specs.Room.{Placed}
 
 release-put :
     (cs : Bool) (r : St7789p3) {k : Controller} → k ≡ cond cs (controller_released r.controller) r.controller →
@@ -40,67 +42,73 @@ release-put :
 release-put true r e = ap (λ k. with_controller k r) e
 release-put false r e = ap (λ k. with_controller k r) e
 
-module _ (t : ℕ) (bytes : List ℕ) (cs : Bool) (s : St7789p3) {dc : Bool} {p : St7789p3} {k : Controller} where
-  pub moved-data :
-      dc ≡ true → p ≡ data_in bytes s → k ≡ cond cs (controller_released p.controller) p.controller → with_controller k p ≡ moved t dc bytes cs s
-  unfolding moved
-  moved-data ed ep ek = rw (ed, ← ep) (release-put cs p ek)
-
-  pub moved-commands :
-      dc ≡ false → p ≡ begun_all t bytes s → k ≡ cond cs (controller_released p.controller) p.controller → with_controller k p ≡ moved t dc bytes cs s
-  unfolding moved
-  moved-commands ed ep ek = rw (ed, ← ep) (release-put cs p ek)
+pub moved-run :
+    (t : ℕ) (dc : Bool) (bytes : List ℕ) (cs : Bool) (s : St7789p3) {p : St7789p3} {k : Controller} →
+    p ≡ cond dc (data_in bytes s) (begun_all t bytes s) → k ≡ cond cs (controller_released p.controller) p.controller →
+    with_controller k p ≡ moved t dc bytes cs s
+unfolding moved
+moved-run t dc bytes cs s {p} {k} ep ek = rw (← ep) (release-put cs p ek)
 
 -- The stored list, at its place or nowhere.
-module _ (bytes : List ℕ) (k : Controller) (l : List Stored) {place : ℕ} (ep : place ≡ place_of (command_in k).kind) where
+module _ (bytes : List ℕ) (k : Controller) (l : List Stored) where
   abbrev kept : Params → Stored
   kept p = record { present = true; params = p }
 
-  abbrev stored_by : Bool → InForce → List Stored
+  abbrev stored_by : Bool → Option ℕ → List Stored
   stored_by b f = cond b l (stored_for f (filled k.chip.decoder.params bytes) l)
 
-  abbrev place_by : Bool → InForce → ℕ
-  place_by b f = place_of (cond b no_command (command_for f)).kind
+  abbrev command_by : Bool → Option ℕ → Option Command
+  command_by b f = cond b None (command_for f)
 
-  -- The list in force after data is the one that a stored command keeps.
-  pub stored-put :
-      {k₁ : Controller} {x : Stored} → place < 12 → k₁ ≡ controller_data bytes k → x ≡ kept k₁.chip.decoder.params →
-      set l place x ≡ stored_data bytes k l
-  unfolding taken chip_taken
-  stored-put {k₁} {x} h ek ex =
-      ap₂ (set l) ep (ex ∙ ap (λ (k : Controller). kept k.chip.decoder.params) ek)
-      ∙ by_kind k.chip.decoder.in_pixels k.chip.decoder.cmd (omega (arith, ep, h))
-    where
-      by_kind :
-          (b : Bool) (f : InForce) → place_by b f < 12 →
-          set l (place_by b f) (kept (cond b (ran bytes k) (taken_for f bytes k)).chip.decoder.params) ≡ stored_by b f
-      by_kind true f h = absurd (omega arith)
-      by_kind false InForce.Nothing h = absurd (omega arith)
-      by_kind false (Code c) h =
-          ap (λ p. set l (place_of (kind_of c)) (kept p)) (taken-params (command_of c) bytes k.chip)
-          ∙ ap (λ b. cond b (set l (place_of (kind_of c)) (kept (filled k.chip.decoder.params bytes))) l) (sym (stored_one (kind_of c) h))
+  module _ {m : Command} {place : ℕ} (em : Some m ≡ command_in k) (ep : place ≡ place_of m.kind) where
+    -- The list in force after data is the one that a stored command keeps.
+    pub stored-put :
+        {k₁ : Controller} {x : Stored} → place < 12 → k₁ ≡ controller_data bytes k → x ≡ kept k₁.chip.decoder.params →
+        set l place x ≡ stored_data bytes k l
+    unfolding taken chip_taken
+    stored-put {k₁} {x} h ek ex =
+        ap₂ (set l) ep (ex ∙ ap (λ (k : Controller). kept k.chip.decoder.params) ek)
+        ∙ by_kind k.chip.decoder.in_pixels k.chip.decoder.cmd em (omega (arith, ep, h))
+      where
+        by_kind :
+            (b : Bool) (f : Option ℕ) → Some m ≡ command_by b f → place_of m.kind < 12 →
+            set l (place_of m.kind) (kept (cond b (ran bytes k) (taken_for f bytes k)).chip.decoder.params) ≡ stored_by b f
+        by_kind true f e h = absurd (cc)
+        by_kind false None e h = absurd (cc)
+        by_kind false (Some c) e h =
+            let same : m ≡ command_of c = cc in
+            ap (λ (m : Command). set l (place_of m.kind) (kept (taken_for (Some c) bytes k).chip.decoder.params)) same
+            ∙ ap (λ p. set l (place_of (kind_of c)) (kept p)) (taken-params (command_of c) bytes k.chip)
+            ∙ ap (λ b. cond b (set l (place_of (kind_of c)) (kept (filled k.chip.decoder.params bytes))) l) (sym (stored_one (kind_of c) (rw same at h)))
 
-  pub stored-nowhere : 12 ≤ place → l ≡ stored_data bytes k l
-  stored-nowhere h = by_kind k.chip.decoder.in_pixels k.chip.decoder.cmd (omega (arith, ep, h))
+    pub stored-nowhere : 12 ≤ place → l ≡ stored_data bytes k l
+    stored-nowhere h = by_kind k.chip.decoder.in_pixels k.chip.decoder.cmd em (omega (arith, ep, h))
+      where
+        by_kind : (b : Bool) (f : Option ℕ) → Some m ≡ command_by b f → 12 ≤ place_of m.kind → l ≡ stored_by b f
+        by_kind true f e h = refl
+        by_kind false None e h = refl
+        by_kind false (Some c) e h =
+            let same : m ≡ command_of c = cc in
+            ap (λ b. cond b (set l (place_of (kind_of c)) (kept (filled k.chip.decoder.params bytes))) l) (sym (none-stored (kind_of c) (rw same at h)))
+
+  -- Data for no command is kept in no list.
+  pub stored-lost : None ≡ command_in k → l ≡ stored_data bytes k l
+  stored-lost em = by_kind k.chip.decoder.in_pixels k.chip.decoder.cmd em
     where
-      by_kind : (b : Bool) (f : InForce) → 12 ≤ place_by b f → l ≡ stored_by b f
-      by_kind true f h = refl
-      by_kind false InForce.Nothing h = refl
-      by_kind false (Code c) h =
-          ap (λ b. cond b (set l (place_of (kind_of c)) (kept (filled k.chip.decoder.params bytes))) l) (sym (none-stored (kind_of c) h))
+      by_kind : (b : Bool) (f : Option ℕ) → None ≡ command_by b f → l ≡ stored_by b f
+      by_kind true f e = refl
+      by_kind false None e = refl
+      by_kind false (Some c) e = absurd (cc)
 
 pub data-put :
-    (bytes : List ℕ) (s : St7789p3) {k : Controller} {st : List Stored} {rs : List TraceRecord} → k ≡ controller_data bytes s.controller →
-    st ≡ stored_data bytes s.controller s.stored →
-    rs ≡ on_current (record_data bytes s.controller) s.controller.logs.current s.records →
-    ◌≡◌ {A = St7789p3} (record { controller = k; stored = st; records = rs; warnings = s.warnings }) (data_in bytes s)
+    (bytes : List ℕ) (s : St7789p3) {k : Controller} {st : List Stored} {at : ℕ} {r : TraceRecord} → Placed s.controller.logs.current →
+    at ≡ current_place s.controller.logs.current →
+    r ≡ if_current (record_data bytes s.controller) s.controller.logs.current (get_or s.records at no_record) →
+    k ≡ controller_data bytes s.controller → st ≡ stored_data bytes s.controller s.stored →
+    ◌≡◌ {A = St7789p3} (record { controller = k; stored = st; records = set s.records at r; warnings = s.warnings }) (data_in bytes s)
 unfolding data_in
-data-put bytes s ek es er = same-panel ek es er refl
-
--- A part of memory is lent on: all of it, or none without panel memory.
-pub end-within : (w : PanelMemory) (n : ℕ) → end_for w n ≤ n
-end-within Lent n = omega arith
-end-within Without n = omega arith
+data-put bytes s {k} {st} {at} {r} h ea er ek es =
+    same-panel ek es (put-here (record_data bytes s.controller) s.controller.logs.current s.records at r h ea er) refl
 
 none_written : (ss : List Store) → written [] ss ≡ []
 none_written [] = refl
@@ -115,26 +123,10 @@ part-written Lent m ss {part} e =
     rw none (append-nil part) ∙ e ∙ ap (λ l. written l ss) (take_all (length m - 0) m (omega arith))
 part-written Without m ss {part} e = ap (λ p. put_mid 0 0 m p) (e ∙ none_written ss)
 
-module _ (w : PanelMemory) (bytes m : List ℕ) (k : Controller) {dc : Bool} where
-  pub stored-data :
-      {end : ℕ} {part : List ℕ} → end ≡ end_for w (length m) → dc ≡ true → part ≡ written (take (end - 0) m) (stores_in true bytes k) →
-      put_mid 0 (end - 0) m part ≡ stored_to w m (stores_in dc bytes k)
-  stored-data ee ed e = rw (ee, ed) (part-written w m (stores_in true bytes k) (rw ee at e))
-
-  pub stored-none : dc ≡ false → m ≡ stored_to w m (stores_in dc bytes k)
-  stored-none e = rw e (by_kind w)
-    where
-      by_kind : (w : PanelMemory) → m ≡ stored_to w m []
-      by_kind Lent = refl
-      by_kind Without = refl
-
--- Commands have no totals.
-pub totals-commands : (bytes : List ℕ) (k : Controller) {dc : Bool} {t : Totals} → dc ≡ false → t ≡ no_totals → t ≡ totals_in dc bytes k
-totals-commands bytes k ed et = rw ed et
-
--- Data has its own.
-pub totals-data : (bytes : List ℕ) (k : Controller) {dc : Bool} {t : Totals} → dc ≡ true → t ≡ totals_in true bytes k → t ≡ totals_in dc bytes k
-totals-data bytes k ed et = rw ed et
+pub stored-run :
+    (w : PanelMemory) (dc : Bool) (bytes m : List ℕ) (k : Controller) {end : ℕ} {part : List ℕ} → end ≡ end_for w (length m) →
+    part ≡ written (take (end - 0) m) (stores_in dc bytes k) → put_mid 0 (end - 0) m part ≡ stored_to w m (stores_in dc bytes k)
+stored-run w dc bytes m k ee e = rw ee (part-written w m (stores_in dc bytes k) (rw ee at e))
 
 -- The whole answer with memory or without, from a transfer over as much memory as counts as lent.
 either : {A : Type 0} (b : Bool) (x : A) → cond b x x ≡ x

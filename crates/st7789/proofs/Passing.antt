@@ -1,5 +1,6 @@
 -- Commands that go together: where nothing can be left in a list and no byte waits, a command that is not busy leaves its number alone
 -- behind once the next one has begun.
+use Rattle.std.specs.Prelude.{Some}
 use Prim.Native.Nat.{ℕ, zero, suc, ◌+◌, ◌-◌, ◌≤◌, ◌<◌}
 use mathlib.Core.Path.{◌≡◌, refl, sym, ap, ap₂, ◌∙◌}
 use mathlib.Core.Bool.{Bool, true, false, cond, ◌||◌, true≢false}
@@ -16,14 +17,13 @@ use Rattle.codes.specs.declared.Command.{Command}
 use Rattle.formats.specs.declared.Carry.{Carry}
 use Rattle.formats.specs.declared.Carry.TheVariants.{Empty, One, Two}
 use Rattle.lists.specs.Fixed.{places}
-use Rattle.lists.proofs.Bools.{neither}
+use Rattle.std.proofs.lemmas.Bool.{or_parts}
 use Rattle.chip.specs.Begin.{decoder_begun}
 use Rattle.chip.specs.declared.Chip.{Chip}
 use Rattle.chip.proofs.Stays.{carry-empty, in-force-alone}
 use Rattle.board.specs.declared.PanelConfig.{PanelConfig}
 use Rattle.board.specs.declared.Power.{Power}
 use Rattle.marks.specs.declared.Marks.{Marks}
-use Rattle.lists.specs.declared.Current.TheVariants.{At}
 use Rattle.st7789.specs.Parts.{whole, with_chip, with_counts, with_logs}
 use Rattle.st7789.specs.Command.{counts_begun, logs_released, controller_begun}
 use Rattle.st7789.specs.Places.{any_free, waits, alone, busy, Passing, controller_begun_all}
@@ -92,20 +92,20 @@ same_parts e1 e2 e3 = cc
 
 module _ (k : Controller) (quiet : alone k ≡ false) where
   unused : (any_free k.logs ≡ false) × (waits k.chip.walk.carry ≡ false)
-  unused = neither (any_free k.logs) (waits k.chip.walk.carry) quiet
+  unused = or_parts (any_free k.logs) (waits k.chip.walk.carry) quiet
 
   full-trace : ltb k.logs.traced places ≡ false
-  full-trace = (neither (ltb k.logs.traced places) (ltb k.logs.warned places) unused.0).0
+  full-trace = (or_parts (ltb k.logs.traced places) (ltb k.logs.warned places) unused.0).0
 
   no-carry : k.chip.walk.carry ≡ Empty
   no-carry = none-waits k.chip.walk.carry unused.1
 
   idle-begun : (c t : ℕ) → busy (kind_of c) ≡ false → controller_begun c t k ≡ passed (command_of c) k
   idle-begun c t e =
-      let n = neither (has_effect (kind_of c)) (is (kind_of c) Ramwr) e in
+      let n = or_parts (has_effect (kind_of c)) (is (kind_of c) Ramwr) e in
       same_parts (in-force-alone (command_of c) t k.chip n.0 n.1 no-carry)
       (ap (λ b. cond b (k.counts.ramwr_count + 1) k.counts.ramwr_count) n.1)
-      (ap (λ b. cond {A = Logs} b (record { traced = k.logs.traced + 1; warned = k.logs.warned; current = At k.logs.traced }) (logs_released k.logs)) full-trace)
+      (ap (λ b. cond {A = Logs} b (record { traced = k.logs.traced + 1; warned = k.logs.warned; current = Some k.logs.traced }) (logs_released k.logs)) full-trace)
 
   -- It stays so with every command.
   still-together : (d t : ℕ) → alone (controller_begun d t k) ≡ false

@@ -1,6 +1,6 @@
 -- Rules: 01, "Commands" and "Lint", and 02, Q-14 and Q-5: beginning a command, and the CS release. What the controller becomes, and beside it what the lists
 -- keep.
-use Rattle.std.specs.Prelude.{ℕ, ◌+◌, cond, ltb}
+use Rattle.std.specs.Prelude.{ℕ, ◌+◌, cond, ltb, Some, None}
 use mathlib.Core.List.{List, map, foldl}
 use Rattle.codes.specs.Codes.{kind_of, command_of, is}
 use Rattle.codes.specs.declared.Kind.{Kind}
@@ -9,7 +9,6 @@ use Rattle.lists.specs.Fixed.{Fixed, places, push, push_all}
 use Rattle.lists.specs.Params.{no_params}
 use Rattle.lists.specs.declared.TraceRecord.{TraceRecord}
 use Rattle.lists.specs.declared.Warning.{Warning}
-use Rattle.lists.specs.declared.Current.TheVariants.{Nothing, At}
 use Rattle.timing.specs.Lint.{broken_by, rules_of}
 use Rattle.timing.specs.declared.Broken.{Broken}
 use Rattle.chip.specs.Begin.{in_force, effects, chip_released}
@@ -54,8 +53,8 @@ begun_record c t = record { at = t; pixel_bytes = 0; params = no_params; cmd = c
 -- "Then a trace record if fewer than 128 are used, else none is current.": how many are used, and which is current.
 abbrev pub logs_begun : Logs → Logs
 logs_begun l =
-    cond {A = Logs} (ltb l.traced places) (record { traced = l.traced + 1; warned = l.warned; current = At l.traced })
-    (record { traced = l.traced; warned = l.warned; current = Nothing })
+    cond {A = Logs} (ltb l.traced places) (record { traced = l.traced + 1; warned = l.warned; current = Some l.traced })
+    (record { traced = l.traced; warned = l.warned; current = None })
 
 -- What follows the lint, of the controller.
 abbrev pub controller_begun : ℕ → ℕ → Controller → Controller
@@ -89,7 +88,7 @@ begun_all t bytes s = foldl (λ s c. begun c t s) s bytes
 
 -- "CS release: .. no current record."
 abbrev pub logs_released : Logs → Logs
-logs_released l = record { traced = l.traced; warned = l.warned; current = Nothing }
+logs_released l = record { traced = l.traced; warned = l.warned; current = None }
 
 -- "CS release: no command, .. no current record."
 unfoldable pub controller_released : Controller → Controller

@@ -1,6 +1,6 @@
 -- Rules: 01, "Commands", on data, and 02, Q-3 and Q-5: in a run, for a command, or lost. What the controller becomes, and beside it what the
 -- lists keep, what is stored, and how many pixels went which way.
-use Rattle.std.specs.Prelude.{ℕ, ◌+◌, Bool, true, cond, ◌&&◌, List, [], length, set, get_or}
+use Rattle.std.specs.Prelude.{ℕ, ◌+◌, Bool, true, cond, ◌&&◌, List, [], length, set, get_or, Option, Some, None}
 use Rattle.pixels.specs.Run.{Store, no_totals}
 use Rattle.pixels.specs.declared.Totals.{Totals}
 use Rattle.pixels.specs.declared.Walk.{Walk}
@@ -10,12 +10,8 @@ use Rattle.lists.specs.Params.{filled, excess}
 use Rattle.lists.specs.declared.Params.{Params}
 use Rattle.lists.specs.declared.Stored.{Stored}
 use Rattle.lists.specs.declared.TraceRecord.{TraceRecord}
-use Rattle.lists.specs.declared.Current.{Current}
-use Rattle.lists.specs.declared.Current.TheVariants.{Nothing, At}
 use Rattle.chip.specs.Apply.{chip_filled, applied_if_due}
 use Rattle.chip.specs.Site.{chip_stores, chip_counted, chip_totals, chip_walked}
-use Rattle.chip.specs.declared.InForce.{InForce}
-use Rattle.chip.specs.declared.InForce.TheVariants.{Code}
 use Rattle.chip.specs.declared.Chip.{Chip}
 use Rattle.st7789.specs.Parts.{with_chip, with_counts, with_marks}
 use Rattle.st7789.specs.declared.Counts.{Counts}
@@ -27,9 +23,9 @@ abbrev pub no_record : TraceRecord
 no_record = record { at = 0; pixel_bytes = 0; params = record { bytes = []; count = 0 }; cmd = 0 }
 
 -- The current record changed, if there is one.
-abbrev pub on_current : (TraceRecord → TraceRecord) → Current → List TraceRecord → List TraceRecord
-on_current f Nothing records = records
-on_current f (At i) records = set records i (f (get_or records i no_record))
+abbrev pub on_current : (TraceRecord → TraceRecord) → Option ℕ → List TraceRecord → List TraceRecord
+on_current f None records = records
+on_current f (Some i) records = set records i (f (get_or records i no_record))
 
 -- "the current record's pixel bytes grow by the length"
 abbrev pub more_pixels : ℕ → TraceRecord → TraceRecord
@@ -93,18 +89,18 @@ taken c bytes k =
     with_chip (applied_if_due (command_of c) b.chip) b
 
 -- "With no run and no command in force data is lost and uncounted."
-abbrev pub taken_for : InForce → List ℕ → Controller → Controller
-taken_for InForce.Nothing bytes k = k
-taken_for (Code c) bytes k = taken c bytes k
+abbrev pub taken_for : Option ℕ → List ℕ → Controller → Controller
+taken_for None bytes k = k
+taken_for (Some c) bytes k = taken c bytes k
 
 -- "Data in a run", or "Data with a command and no run": the controller.
 abbrev pub controller_data : List ℕ → Controller → Controller
 controller_data bytes k = cond k.chip.decoder.in_pixels (ran bytes k) (taken_for k.chip.decoder.cmd bytes k)
 
 -- The current record of a segment without a run: lost where no command is in force.
-abbrev pub listed_for : InForce → List ℕ → TraceRecord → TraceRecord
-listed_for InForce.Nothing bytes r = r
-listed_for (Code c) bytes r = more_params bytes r
+abbrev pub listed_for : Option ℕ → List ℕ → TraceRecord → TraceRecord
+listed_for None bytes r = r
+listed_for (Some c) bytes r = more_params bytes r
 
 -- "Data in a run", or "Data with a command and no run": the current record.
 abbrev pub record_data : List ℕ → Controller → TraceRecord → TraceRecord
@@ -112,9 +108,9 @@ record_data bytes k r =
     cond k.chip.decoder.in_pixels (more_pixels (length bytes) r) (listed_for k.chip.decoder.cmd bytes r)
 
 -- "A stored command stores its list on every data segment, an empty one too, so the last wins."
-abbrev pub stored_for : InForce → Params → List Stored → List Stored
-stored_for InForce.Nothing p l = l
-stored_for (Code c) p l = cond (is_stored (kind_of c)) (set l (place_of (kind_of c)) (record { present = true; params = p })) l
+abbrev pub stored_for : Option ℕ → Params → List Stored → List Stored
+stored_for None p l = l
+stored_for (Some c) p l = cond (is_stored (kind_of c)) (set l (place_of (kind_of c)) (record { present = true; params = p })) l
 
 -- "Data in a run", or "Data with a command and no run": the stored lists.
 abbrev pub stored_data : List ℕ → Controller → List Stored → List Stored

@@ -1,12 +1,11 @@
 -- Rules: 01, and 02, Q-3, what the public operations leave behind and answer.
-use Rattle.std.specs.Prelude.{ℕ, Bool, false, cond, List, length, replicate}
+use Rattle.std.specs.Prelude.{ℕ, Bool, false, cond, List, length, replicate, None}
 use Rattle.marks.specs.Rows.{no_rows, all_rows}
 use Rattle.pixels.specs.Run.{written, zeroed, no_totals}
 use Rattle.pixels.specs.declared.Totals.{Totals}
 use Rattle.lists.specs.Fixed.{places}
 use Rattle.lists.specs.Entries.{empty_record}
 use Rattle.lists.specs.Params.{no_params}
-use Rattle.lists.specs.declared.Current.{Current}
 use Rattle.board.specs.Board.{switch_set, unpowered, powered_to, lit_to, is_board_rail}
 use Rattle.board.specs.declared.BoardDomain.{BoardDomain}
 use Rattle.board.specs.declared.PanelConfig.{PanelConfig}
@@ -32,7 +31,7 @@ fresh_controller cfg =
       chip = fresh_chip;
       counts = record { commands = 0; ramwr_count = 0; pixels_written = 0; dropped_params = 0; inverted = 0; unmapped = 0 };
       marks = no_rows;
-      logs = record { traced = 0; warned = 0; current = Current.Nothing };
+      logs = record { traced = 0; warned = 0; current = None };
     }
 
 -- "Fresh: .. lists empty": a controller beside empty lists.

@@ -1,71 +1,57 @@
 -- Workshop: how the code looks at the current record, at a place that the list always has, at the stored lists and at lent memory.
-use Rattle.std.specs.Prelude.{ℕ, ◌+◌, ◌≤◌, ◌<◌, ◌≡◌, Bool, true, false, cond, not, ◌||◌, ltb, eqb, get_or}
+use Rattle.std.specs.Prelude.{ℕ, ◌+◌, ◌≤◌, ◌<◌, ◌≡◌, Bool, true, false, cond, not, ◌||◌, ltb, eqb, get_or, Option, Some, None}
 use mathlib.Core.List.{List, foldl}
 use Rattle.formats.specs.declared.Carry.{Carry}
 use Rattle.formats.specs.declared.Carry.TheVariants.{Empty, One, Two}
 use Rattle.pixels.specs.Run.{Store, written}
 use Rattle.lists.specs.Fixed.{places}
-use Rattle.codes.specs.Codes.{row, kind_of, command_of, is, has_effect}
+use Rattle.codes.specs.Codes.{kind_of, command_of, is, has_effect}
 use Rattle.codes.specs.declared.Kind.{Kind}
-use Rattle.codes.specs.declared.Kind.TheVariants.{NoEffect, Ramwr}
+use Rattle.codes.specs.declared.Kind.TheVariants.{Ramwr}
 use Rattle.codes.specs.declared.Command.{Command}
-use Rattle.lists.specs.Entries.{some}
 use Rattle.lists.specs.Params.{differ}
 use Rattle.lists.specs.declared.Params.{Params}
 use Rattle.lists.specs.declared.TraceRecord.{TraceRecord}
-use Rattle.lists.specs.declared.Current.{Current}
-use Rattle.lists.specs.declared.Current.TheVariants.{Nothing, At}
-use Rattle.chip.specs.declared.InForce.{InForce}
-use Rattle.chip.specs.declared.InForce.TheVariants.{Code}
 use Rattle.status.specs.Tests.{first, transfer_row}
 use Rattle.st7789.specs.Command.{controller_begun}
-use Rattle.st7789.specs.Refusals.{itself, clauses, counted}
+use Rattle.st7789.specs.Refusals.{counted}
 use Rattle.st7789.specs.declared.PanelMemory.{PanelMemory}
 use Rattle.st7789.specs.declared.PanelMemory.TheVariants.{Lent, Without}
 use Rattle.st7789.specs.declared.Controller.{Controller}
 use Rattle.st7789.specs.declared.Logs.{Logs}
 
 -- The place of the current record, the first one where there is none.
-abbrev pub current_place : Current → ℕ
-current_place Nothing = 0
-current_place (At i) = cond (ltb i places) i 0
+abbrev pub current_place : Option ℕ → ℕ
+current_place None = 0
+current_place (Some i) = cond (ltb i places) i 0
 
 -- Whether the record is not the last of n, or its parameters p differ from those in force, q.
-abbrev pub wrong_for : Current → ℕ → Params → Params → Bool
-wrong_for Nothing n p q = false
-wrong_for (At i) n p q = not (eqb (i + 1) n) || differ p q
+abbrev pub wrong_for : Option ℕ → ℕ → Params → Params → Bool
+wrong_for None n p q = false
+wrong_for (Some i) n p q = not (eqb (i + 1) n) || differ p q
 
 -- The pixel bytes n of the record that stands at the place, 0 where none is current.
-abbrev pub held_for : Current → ℕ → ℕ
-held_for Nothing n = 0
-held_for (At i) n = n
+abbrev pub held_for : Option ℕ → ℕ → ℕ
+held_for None n = 0
+held_for (Some i) n = n
 
 -- The record that stands at the place, changed where it is current.
-abbrev pub if_current : (TraceRecord → TraceRecord) → Current → TraceRecord → TraceRecord
-if_current f Nothing r = r
-if_current f (At i) r = f r
+abbrev pub if_current : (TraceRecord → TraceRecord) → Option ℕ → TraceRecord → TraceRecord
+if_current f None r = r
+if_current f (Some i) r = f r
 
--- The refusal of a transfer, by what was told of the lists and by the record that stands at the current one's place.
-abbrev pub judged_for : Controller → Bool → Bool → TraceRecord → ℕ → ℕ → ℕ
-judged_for k stored records r cells bytes =
-    first
-    (transfer_row
-    (some itself (clauses k stored records (wrong_for k.logs.current k.logs.traced r.params k.chip.decoder.params)))
-    cells bytes
-    (counted k (held_for k.logs.current r.pixel_bytes)))
-
--- What stands for a command where there is none.
-abbrev pub no_command : Command
-no_command = row 0 NoEffect 0
+-- The refusal of a transfer, by BAD_STATE and by the current record's pixel bytes.
+abbrev pub judged_for : Controller → Bool → ℕ → ℕ → ℕ → ℕ
+judged_for k bad held cells bytes = first (transfer_row bad cells bytes (counted k held))
 
 -- The command in force.
-abbrev pub command_for : InForce → Command
-command_for InForce.Nothing = no_command
-command_for (Code c) = command_of c
+abbrev pub command_for : Option ℕ → Option Command
+command_for None = None
+command_for (Some c) = Some (command_of c)
 
 -- The command that data is for; in a run there is none.
-abbrev pub command_in : Controller → Command
-command_in k = cond k.chip.decoder.in_pixels no_command (command_for k.chip.decoder.cmd)
+abbrev pub command_in : Controller → Option Command
+command_in k = cond k.chip.decoder.in_pixels None (command_for k.chip.decoder.cmd)
 
 -- Whether a place is free in the trace or among the warnings.
 abbrev pub any_free : Logs → Bool

@@ -1,5 +1,5 @@
 -- Rules: 01's table of refusals, and 02, Q-3 and Q-5, when each is given.
-use Rattle.std.specs.Prelude.{ℕ, ◌+◌, Bool, false, not, ◌||◌, List, [], ◌∷◌, get_or, ltb, eqb}
+use Rattle.std.specs.Prelude.{ℕ, ◌+◌, Bool, false, not, ◌||◌, List, [], ◌∷◌, get_or, ltb, eqb, Option, Some, None}
 use Rattle.lists.specs.Fixed.{Fixed, places, used}
 use Rattle.lists.specs.Entries.{some, stored_long, record_long}
 use Rattle.lists.specs.Params.{too_long, differ}
@@ -10,8 +10,6 @@ use Rattle.marks.specs.Rows.{marks_bad}
 use Rattle.status.specs.Tests.{first, transfer_row, bare_row}
 use Rattle.lists.specs.declared.Params.{Params}
 use Rattle.lists.specs.declared.TraceRecord.{TraceRecord}
-use Rattle.lists.specs.declared.Current.{Current}
-use Rattle.lists.specs.declared.Current.TheVariants.{Nothing, At}
 use Rattle.st7789.specs.Parts.{trace_of}
 use Rattle.st7789.specs.Data.{no_record}
 use Rattle.st7789.specs.declared.Controller.{Controller}
@@ -22,9 +20,9 @@ abbrev pub count_bad : ℕ → Bool
 count_bad n = ltb places n
 
 -- "a current trace record isn't the last used one, or its parameters differ from those in force"
-abbrev pub current_bad : Current → Fixed TraceRecord → Params → Bool
-current_bad Nothing trace in_force = false
-current_bad (At i) trace in_force = not (eqb (i + 1) trace.count) || differ (get_or trace.places i no_record).params in_force
+abbrev pub current_bad : Option ℕ → Fixed TraceRecord → Params → Bool
+current_bad None trace in_force = false
+current_bad (Some i) trace in_force = not (eqb (i + 1) trace.count) || differ (get_or trace.places i no_record).params in_force
 
 -- BAD_STATE, clause by clause in 01's order, then Q-5's. What is asked of the stored lists, the used records and the current record comes in.
 abbrev pub clauses : Controller → Bool → Bool → Bool → List Bool
@@ -66,9 +64,9 @@ unfoldable pub bad_state : St7789p3 → Bool
 bad_state s = some itself (clauses_of s)
 
 -- "the current trace record's pixel bytes", 0 where none is current.
-abbrev pub pixels_held : Current → List TraceRecord → ℕ
-pixels_held Nothing records = 0
-pixels_held (At i) records = (get_or records i no_record).pixel_bytes
+abbrev pub pixels_held : Option ℕ → List TraceRecord → ℕ
+pixels_held None records = 0
+pixels_held (Some i) records = (get_or records i no_record).pixel_bytes
 
 -- What COUNT_HIGH looks at: "one of commands, ramwr_count, pixels_written, dropped_params, or the current trace record's pixel bytes",
 -- which come in; and 02, Q-3: "COUNT_HIGH also looks at both", the inverted and the unmapped.

@@ -1,16 +1,14 @@
 -- Workshop: what the tests of a transfer leave known: room in every counter for n more, and a current record that is one.
-use Rattle.std.specs.Prelude.{ℕ, ◌+◌, ◌^◌, ◌<◌}
+use Rattle.std.specs.Prelude.{ℕ, ◌+◌, ◌^◌, ◌<◌, Option, Some, None}
 use Rattle.lists.specs.Fixed.{places}
-use Rattle.lists.specs.declared.Current.{Current}
-use Rattle.lists.specs.declared.Current.TheVariants.{Nothing, At}
 use Rattle.st7789.specs.Refusals.{pixels_held}
 use Rattle.st7789.specs.declared.Counts.{Counts}
 use Rattle.st7789.specs.declared.St7789p3.{St7789p3}
 
 -- A current record is one of the 128.
-abbrev pub Placed : Current → Type 0
-Placed Nothing = Unit {0}
-Placed (At i) = i < places
+abbrev pub Placed : Option ℕ → Type 0
+Placed None = Unit {0}
+Placed (Some i) = i < places
 
 -- No counter runs over by n more.
 pub record Countable (n : ℕ) (k : Counts) : Type 0 where

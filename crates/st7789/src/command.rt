@@ -1,24 +1,24 @@
 // Beginning a command, and the CS release: what becomes of the controller, and the record that the trace keeps.
 ghost use Rattle.std.specs.Prelude.{◌≡◌, false, cond, ◌+◌, ◌^◌, ◌≤◌, ◌<◌, length};
-ghost use Rattle.codes.specs.Table.{table};
 ghost use Rattle.st7789.specs.Command.{broken_with, counts_begun, logs_begun, begun_record, controller_begun, logs_released, controller_released};
 ghost use Rattle.st7789.specs.Places.{any_free, alone, Passing, controller_begun_all};
 
+use crate::table::Codes;
 use crate::{Controller, Counts, Logs};
-use codes::{Command, Kind};
+use codes::Kind;
 use formats::Carry;
-use lists::{Current, PLACES, Params, TraceRecord};
+use lists::{PLACES, Params, TraceRecord};
 use timing::Broken;
 
 impl Counts {
+    // A command more. Not `Countable`: a loop over commands keeps these two bounds alone (`Turn`).
     fn begin(mut self, kind: Kind) -> Counts
         requires { (self.commands + 1 < 2 ^ 64) × (self.ramwr_count + 1 < 2 ^ 64) }
         ensures { result ≡ counts_begun kind self }
     {
-        self.commands = self.commands + 1;
+        self.commands += 1;
         if kind.is(Kind::Ramwr) {
-            self.ramwr_count = self.ramwr_count + 1;
-            return self;
+            self.ramwr_count += 1;
         }
         self
     }
@@ -31,7 +31,7 @@ impl Logs {
     {
         let record = lists::free(self.traced, PLACES);
         let warning = lists::free(self.warned, PLACES);
-        (record < PLACES) | (warning < PLACES)
+        record < PLACES || warning < PLACES
     }
 
     // A record more, which is current, or none where no place is free.
@@ -42,12 +42,12 @@ impl Logs {
         if lists::free(last, PLACES) < PLACES {
             return Logs {
                 traced: last + 1,
-                warned: self.warned,
-                current: Current::At(last),
+                current: Some(last),
+                ..self
             };
         }
         Logs {
-            current: Current::Nothing,
+            current: None,
             ..self
         }
     }
@@ -57,7 +57,7 @@ impl Logs {
         ensures { result ≡ logs_released self }
     {
         Logs {
-            current: Current::Nothing,
+            current: None,
             ..self
         }
     }
@@ -67,65 +67,56 @@ impl Logs {
 pub(crate) fn begun_record(c: u8, t: u64) -> TraceRecord
     ensures { result ≡ begun_record c t }
 {
-    let params = Params::empty();
     TraceRecord {
         at: t,
         pixel_bytes: 0,
-        params,
+        params: Params::empty(),
         cmd: c,
     }
 }
 
 // Of the commands from i on, the first of which something stays when the next one begins; the last one where there is none.
-fn next_busy(codes: &[u16; 256], bytes: &[u8], i: usize) -> usize
-    requires { (codes.now ≡ table) × (i < length bytes.now) }
+fn next_busy(codes: &Codes, bytes: &[u8], i: usize) -> usize
+    requires { i < length bytes.now }
     ensures lower_bound { (i ≤ result) × (result < length bytes.now) }
     ensures passing { Passing bytes.now i result }
 {
-    let mut at = i;
-    while at + 1 < bytes.len() {
-        let command = codes::decode(codes, bytes[at]);
-        let kind = command.kind;
+    let last = bytes.len() - 1;
+    for at in i..last {
+        let kind = codes.decode(bytes[at]).kind;
+        // `|`: one branch for both.
         if kind.has_effect() | kind.is(Kind::Ramwr) {
             return at;
         }
-        at += 1;
     }
-    at
+    last
 }
 
 impl Controller {
     // The rules that command c breaks at time t.
-    pub(crate) fn lint(self, codes: &[u16; 256], c: u8, t: u64) -> Broken
-        requires { codes.now ≡ table }
+    pub(crate) fn lint(self, codes: &Codes, c: u8, t: u64) -> Broken
         ensures { result ≡ broken_with c t self }
     {
-        let command = codes::decode(codes, c);
-        let kind = command.kind;
         timing::lint(
             self.cfg.strict,
             self.cfg.formats,
             self.chip.times,
             self.chip.registers.colmod,
-            kind,
+            codes.decode(c).kind,
             t,
         )
     }
 
     // Command c begins at time t, after the lint.
     #[tactic(auto, unfolding(chip::specs::Begin::chip_begun))]
-    pub(crate) fn begin(mut self, codes: &[u16; 256], c: u8, t: u64) -> Controller
-        requires { (codes.now ≡ table) × ((self.counts.commands + 1 < 2 ^ 64) × (self.counts.ramwr_count + 1 < 2 ^ 64)) }
+    pub(crate) fn begin(mut self, codes: &Codes, c: u8, t: u64) -> Controller
+        requires { (self.counts.commands + 1 < 2 ^ 64) × (self.counts.ramwr_count + 1 < 2 ^ 64) }
         ensures { result ≡ controller_begun c t self }
     {
-        let command = codes::decode(codes, c);
-        let kind = command.kind;
-        let chip = self.chip.begin(command, t);
-        let counts = self.counts.begin(kind);
-        let logs = self.logs.begin();
-        self.chip = chip;
-        self.counts = counts;
-        self.logs = logs;
+        let command = codes.decode(c);
+        self.chip = self.chip.begin(command, t);
+        self.counts = self.counts.begin(command.kind);
+        self.logs = self.logs.begin();
         self
     }
 
@@ -136,32 +127,28 @@ impl Controller {
         ensures value { result ≡ cond (alone self) (i + 1) end }
         ensures lower_bound { (i < result) × (result ≤ end) }
     {
-        let logs = self.logs;
-        if logs.any_free() {
+        if self.logs.any_free() {
             return i + 1;
         }
-        let walk = self.chip.walk;
-        let carry = walk.carry;
-        match carry {
+        match self.chip.walk.carry {
             Carry::Empty => end,
-            Carry::One(a) => i + 1,
-            Carry::Two(a, b) => i + 1,
+            Carry::One(_) | Carry::Two(_, _) => i + 1,
         }
     }
 
-    // Each byte begins a command: what becomes of the controller. Commands that go together are only counted where nothing else stays of them.
-    pub(crate) fn begin_all(self, codes: &[u16; 256], t: u64, bytes: &[u8]) -> Controller
-        requires codes_value { (codes.now ≡ table) × ((self.counts.commands + length bytes.now < 2 ^ 64) × (self.counts.ramwr_count + length bytes.now < 2 ^ 64)) }
-        requires self_value { 1 < length bytes.now → alone self ≡ false }
+    // Each byte begins a command: what becomes of the controller. Commands that go together are only counted where nothing else stays of
+    // them.
+    pub(crate) fn begin_all(self, codes: &Codes, t: u64, bytes: &[u8]) -> Controller
+        requires room { (self.counts.commands + length bytes.now < 2 ^ 64) × (self.counts.ramwr_count + length bytes.now < 2 ^ 64) }
+        requires together { 1 < length bytes.now → alone self ≡ false }
         ensures { result ≡ controller_begun_all t bytes.now self }
     {
         let mut controller = self;
         let mut i = 0;
+        // No `for`: how many are passed over is known in each turn.
         while i < bytes.len() {
             let next = next_busy(codes, bytes, i);
-            let passed = (next - i) as u64;
-            let commands = controller.counts.commands + passed;
-            controller.counts.commands = commands;
+            controller.counts.commands += (next - i) as u64;
             controller = controller.begin(codes, bytes[next], t);
             i = next + 1;
         }
@@ -174,10 +161,8 @@ impl Controller {
         ensures { result ≡ cond cs_release (controller_released self) self }
     {
         if cs_release {
-            let chip = self.chip.release();
-            let logs = self.logs.release();
-            self.chip = chip;
-            self.logs = logs;
+            self.chip = self.chip.release();
+            self.logs = self.logs.release();
         }
         self
     }

@@ -4,7 +4,7 @@ ghost use Rattle.lists.specs.Fixed.{places};
 ghost use Rattle.st7789.specs.Places.{current_place, wrong_for, held_for};
 
 use crate::Logs;
-use lists::{Current, PLACES, Params};
+use lists::{PLACES, Params};
 
 impl Logs {
     // The place of the current record, the first one where there is none.
@@ -12,15 +12,11 @@ impl Logs {
         ensures value { result ≡ current_place self.current }
         ensures upper_bound { result < places }
     {
-        let current = self.current;
-        match current {
-            Current::Nothing => 0,
-            Current::At(i) => {
+        match self.current {
+            None => 0,
+            Some(i) => {
                 let at = lists::free(i, PLACES);
-                if at < PLACES {
-                    return at;
-                }
-                0
+                if at < PLACES { at } else { 0 }
             }
         }
     }
@@ -29,14 +25,9 @@ impl Logs {
     pub(crate) fn current_bad(self, params: Params, in_force: Params) -> bool
         ensures { result ≡ wrong_for self.current self.traced params in_force }
     {
-        let current = self.current;
-        match current {
-            Current::Nothing => false,
-            Current::At(i) => {
-                let latest = lists::is_latest(i, self.traced);
-                let differs = params.differs(in_force);
-                !latest | differs
-            }
+        match self.current {
+            None => false,
+            Some(i) => !lists::is_latest(i, self.traced) || params.differs(in_force),
         }
     }
 
@@ -44,10 +35,9 @@ impl Logs {
     pub(crate) fn held(self, pixel_bytes: u64) -> u64
         ensures { result ≡ held_for self.current pixel_bytes }
     {
-        let current = self.current;
-        match current {
-            Current::Nothing => 0,
-            Current::At(i) => pixel_bytes,
+        match self.current {
+            None => 0,
+            Some(_) => pixel_bytes,
         }
     }
 }

@@ -7,7 +7,7 @@ ghost use Rattle.st7789.specs.Entries.{fresh_controller, empty_lists, fresh_pane
 use crate::{Answer, Controller, Counts, Logs, St7789p3};
 use board::{BoardDomain, PanelConfig, Power};
 use chip::Chip;
-use lists::{Current, PLACES, Params, Stored, TraceRecord, Warning};
+use lists::{PLACES, Params, Stored, TraceRecord, Warning};
 use marks::Marks;
 use status::accepted;
 
@@ -17,29 +17,13 @@ impl Controller {
     pub fn fresh(cfg: PanelConfig) -> Controller
         ensures answer { result ≡ fresh_controller cfg }
     {
-        let power = Power::fresh();
-        let chip = Chip::fresh();
-        let counts = Counts {
-            commands: 0,
-            ramwr_count: 0,
-            pixels_written: 0,
-            dropped_params: 0,
-            inverted: 0,
-            unmapped: 0,
-        };
-        let logs = Logs {
-            traced: 0,
-            warned: 0,
-            current: Current::Nothing,
-        };
-        let marks = Marks::none();
         Controller {
             cfg,
-            power,
-            chip,
-            counts,
-            marks,
-            logs,
+            power: Power::fresh(),
+            chip: Chip::fresh(),
+            counts: Counts::default(),
+            marks: Marks::none(),
+            logs: Logs::default(),
         }
     }
 }
@@ -77,17 +61,14 @@ impl St7789p3 {
     pub fn fresh(cfg: PanelConfig) -> St7789p3
         ensures answer { result ≡ fresh_panel cfg }
     {
-        let controller = Controller::fresh(cfg);
-        St7789p3::empty(controller)
+        St7789p3::empty(Controller::fresh(cfg))
     }
 
     // As the board rail leaves it: fresh, and all rows marked.
     fn renewed(cfg: PanelConfig) -> St7789p3
         ensures { result ≡ empty_lists (all_marked (fresh_controller cfg)) }
     {
-        let fresh = Controller::fresh(cfg);
-        let controller = fresh.mark_all_dirty();
-        St7789p3::empty(controller)
+        St7789p3::empty(Controller::fresh(cfg).mark_all_dirty())
     }
 
     // A panel over lent memory, which is cleared. Refused, it is fresh all the same and the memory stays.
@@ -101,24 +82,21 @@ impl St7789p3 {
         let status = status::memory_status(memory.len());
         if accepted(status) {
             pixels::clear(memory);
-            return Answer { panel, status };
         }
         Answer { panel, status }
     }
 
     // Resets a board domain. Only the board rail resets the panel, clearing memory with it; the configuration stays.
     #[tactic(auto, unfolding(crate::specs::Entries::reset_state, crate::specs::Entries::reset_memory))]
-    pub fn reset(self, domain: BoardDomain, memory: &mut [u16]) -> Answer
+    pub fn reset(mut self, domain: BoardDomain, memory: &mut [u16]) -> Answer
         ensures refusal { number result.status ≡ memory_refusal (length memory.old) }
         ensures answer { result.panel ≡ reset_state domain (length memory.old) self }
         ensures lent { memory.new ≡ reset_memory domain memory.old }
     {
         let status = status::memory_status(memory.len());
-        let rail = board::is_board_rail(domain);
-        if accepted(status) & rail {
+        if accepted(status) && board::is_board_rail(domain) {
             pixels::clear(memory);
-            let panel = St7789p3::renewed(self.controller.cfg);
-            return Answer { panel, status };
+            self = St7789p3::renewed(self.controller.cfg);
         }
         Answer {
             panel: self,

@@ -3,7 +3,7 @@
 
 use board::{PanelConfig, Power};
 use chip::Chip;
-use lists::{Current, PLACES, Stored, TraceRecord, Warning};
+use lists::{PLACES, Stored, TraceRecord, Warning};
 use marks::Marks;
 use pixels::Totals;
 use status::Status;
@@ -14,10 +14,11 @@ mod data;
 mod fresh;
 mod refusals;
 mod switches;
+mod table;
 mod transfer;
 
 // What was counted since the panel was fresh; the last two are pixels that vanished, in an inverted window and where no cell was.
-#[derive(Clone, Copy)]
+#[derive(Clone, Copy, Debug, Default, PartialEq, Eq)]
 pub struct Counts {
     pub commands: u64,
     pub ramwr_count: u64,
@@ -28,14 +29,14 @@ pub struct Counts {
 }
 
 // How many trace records and warnings are used, and which record is current.
-#[derive(Clone, Copy)]
+#[derive(Clone, Copy, Debug, Default, PartialEq, Eq)]
 pub struct Logs {
     pub traced: u8,
     pub warned: u8,
-    pub current: Current,
+    pub current: Option<u8>,
 }
 
-// Everything but the lists.
+// Everything but the lists. No PartialEq, here and of what holds it: parameters in force have none (`lists::Params`).
 #[derive(Clone, Copy)]
 pub struct Controller {
     pub cfg: PanelConfig,
@@ -55,21 +56,16 @@ pub struct St7789p3 {
     pub warnings: [Warning; PLACES],
 }
 
-// Whether a transfer comes with panel memory.
-#[derive(Clone, Copy)]
+// Whether a transfer comes with panel memory. It stands beside what is lent, and not as an Option of it: without panel memory `lent` still
+// promises that the numbers stay.
+#[derive(Clone, Copy, Debug, PartialEq, Eq)]
 pub enum PanelMemory {
     Lent,
     Without,
 }
 
-// What a data segment leaves of the controller, and the totals of its pixels.
-#[derive(Clone, Copy)]
-struct Drawn {
-    controller: Controller,
-    totals: Totals,
-}
-
-// What a transfer answers: the panel, how many of its own pixels went which way, and whether it was refused.
+// What a transfer answers: the panel, how many of its own pixels went which way, and whether it was refused. No Result: a refusal gives the
+// panel back.
 #[derive(Clone, Copy)]
 pub struct Transferred {
     pub panel: St7789p3,
@@ -77,13 +73,14 @@ pub struct Transferred {
     pub status: Status,
 }
 
-// What is answered where a panel is made or reset.
+// What is answered where a panel is made or reset; likewise.
 #[derive(Clone, Copy)]
 pub struct Answer {
     pub panel: St7789p3,
     pub status: Status,
 }
 
+// The warnings that a panel hands over, the first `count` of them used (no heap, so no list of that length).
 #[derive(Clone, Copy)]
 pub struct HandedOver {
     pub panel: St7789p3,

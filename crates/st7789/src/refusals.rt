@@ -1,7 +1,8 @@
 // The refusal tests of a panel, in 01's order.
-ghost use Rattle.std.specs.Prelude.{◌≡◌};
-ghost use Rattle.lists.specs.Entries.{some};
-ghost use Rattle.st7789.specs.Refusals.{itself, clauses, bad_state};
+ghost use Rattle.std.specs.Prelude.{◌≡◌, min, take};
+ghost use Rattle.lists.specs.Fixed.{places};
+ghost use Rattle.lists.specs.Entries.{some, record_long};
+ghost use Rattle.st7789.specs.Refusals.{itself, clauses, bad_state, transfer_refusal};
 ghost use Rattle.st7789.specs.Places.{judged_for, cells_for, end_for};
 ghost use Rattle.status.specs.Numbers.{number};
 
@@ -42,34 +43,25 @@ impl Controller {
         let in_force = self.chip.decoder.params.count > MAX_PARAMS;
         let traced = lists::over(self.logs.traced, PLACES);
         let warned = lists::over(self.logs.warned, PLACES);
-        let marks = self.marks;
-        let span = marks.bad();
-        let chip = self.chip;
-        let site = chip.site(self.cfg.formats);
-        let format = site.format;
-        let walk = chip.walk;
-        let carry = walk.carry;
-        let waiting = carry_bad(format, carry);
+        let span = self.marks.bad();
+        let format = self.chip.site(self.cfg.formats).format;
+        let waiting = carry_bad(format, self.chip.walk.carry);
         corner
-            | (at
-                | (in_force
-                    | (stored | (records | (traced | (warned | (span | (current | waiting))))))))
+            || at
+            || in_force
+            || stored
+            || records
+            || traced
+            || warned
+            || span
+            || current
+            || waiting
     }
 
-    // The tests of a transfer, by what was told of the lists and by the record at the current one's place.
-    pub(crate) fn judged(
-        self,
-        stored: bool,
-        records: bool,
-        record: TraceRecord,
-        cells: usize,
-        bytes: usize,
-    ) -> Status
-        ensures { number result ≡ judged_for self stored records «record» cells bytes }
+    // The tests of a transfer, by BAD_STATE and by the current record's pixel bytes.
+    pub(crate) fn judged(self, bad: bool, held: u64, cells: usize, bytes: usize) -> Status
+        ensures { number result ≡ judged_for self bad held cells bytes }
     {
-        let logs = self.logs;
-        let wrong = logs.current_bad(record.params, self.chip.decoder.params);
-        let bad = self.bad(stored, records, wrong);
         let counts = [
             self.counts.commands,
             self.counts.ramwr_count,
@@ -77,31 +69,53 @@ impl Controller {
             self.counts.dropped_params,
             self.counts.inverted,
             self.counts.unmapped,
-            logs.held(record.pixel_bytes),
+            held,
         ];
         status::transfer_status(bad, cells, bytes, &counts)
     }
 }
 
+// Whether a used record's list is longer than 14. All are looked at: `any` is a branch for each, and a transfer over a full trace slower by
+// it.
+fn records_long(records: &[TraceRecord; PLACES], traced: u8) -> bool
+    ensures { result ≡ some record_long (take (min traced places) records.now) }
+{
+    let used = &records[..lists::free(traced, PLACES)];
+    let mut long = false;
+    for record in used {
+        long = long | (record.params.count > MAX_PARAMS);
+    }
+    long
+}
+
 impl St7789p3 {
+    // BAD_STATE of a panel that is lent.
+    fn bad(&self) -> bool
+        ensures { result ≡ bad_state self.now }
+    {
+        let controller = self.controller;
+        let logs = controller.logs;
+        let stored = lists::stored_long(self.stored);
+        let records = records_long(&self.records, logs.traced);
+        let record = self.records[logs.place()];
+        let wrong = logs.current_bad(record.params, controller.chip.decoder.params);
+        controller.bad(stored, records, wrong)
+    }
+
     // BAD_STATE: whether the state is one that no transfer and no publishing takes.
     pub fn bad_state(self) -> bool
         ensures answer { result ≡ bad_state self }
     {
-        let controller = self.controller;
-        let stored_long = lists::stored_long(self.stored);
-        let used = lists::free(controller.logs.traced, PLACES);
-        let mut long = false;
-        let mut j = 0;
-        while j < used {
-            long = long | (self.records[j].params.count > MAX_PARAMS);
-            j += 1;
-        }
-        let at = controller.logs.place();
-        let record = self.records[at];
-        let wrong = controller
-            .logs
-            .current_bad(record.params, controller.chip.decoder.params);
-        controller.bad(stored_long, long, wrong)
+        self.bad()
+    }
+
+    // The tests of a transfer of so many bytes with so much memory.
+    pub(crate) fn judged(&self, cells: usize, bytes: usize) -> Status
+        ensures { number result ≡ transfer_refusal self.now cells bytes }
+    {
+        let logs = self.controller.logs;
+        let record = self.records[logs.place()];
+        let held = logs.held(record.pixel_bytes);
+        self.controller.judged(self.bad(), held, cells, bytes)
     }
 }

@@ -10,16 +10,14 @@ impl Controller {
     pub fn set_powered(mut self, on: bool) -> Controller
         ensures answer { result ≡ powered_set on self }
     {
-        let power = self.power.set_powered(on);
-        self.power = power;
+        self.power = self.power.set_powered(on);
         self
     }
 
     pub fn set_invon_shows_ram(mut self, shows_ram: bool) -> Controller
         ensures answer { result ≡ shows_set shows_ram self }
     {
-        let cfg = self.cfg.set_invon_shows_ram(shows_ram);
-        self.cfg = cfg;
+        self.cfg = self.cfg.set_invon_shows_ram(shows_ram);
         self
     }
 
@@ -27,8 +25,7 @@ impl Controller {
     pub fn set_brightness(mut self, level: u32, scale: u32, duty: u16) -> Controller
         ensures answer { result ≡ brightness_set level scale duty self }
     {
-        let power = self.power.set_brightness(level, scale, duty);
-        self.power = power;
+        self.power = self.power.set_brightness(level, scale, duty);
         self
     }
 
@@ -36,8 +33,7 @@ impl Controller {
     pub fn mark_all_dirty(mut self) -> Controller
         ensures answer { result ≡ all_marked self }
     {
-        let marks = Marks::all();
-        self.marks = marks;
+        self.marks = Marks::all();
         self
     }
 }

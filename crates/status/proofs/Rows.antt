@@ -5,8 +5,8 @@ use mathlib.Core.Bool.{Bool, true, false, true≢false}
 use mathlib.Core.List.{List, [], ◌∷◌}
 use lib.Dec.{eqb}
 use lib.ListN.{get_or}
+use Rattle.std.proofs.lemmas.Bool.{or_parts}
 use Rattle.lists.specs.Entries.{some}
-use Rattle.lists.proofs.Bools.{neither}
 use Rattle.lists.proofs.Somes.{None, each-fails}
 use Rattle.status.specs.Tests.{Test, first}
 
@@ -25,7 +25,7 @@ passing = record { refuses = false; number = 0 }
 none-refuses : (l : List Test) → some unnumbered l ≡ false → first l ≡ 0 → some refusing l ≡ false
 none-refuses [] n e = refl
 none-refuses (x ∷ l) n e =
-    let t = neither (unnumbered x) (some unnumbered l) n in
+    let t = or_parts (unnumbered x) (some unnumbered l) n in
     by-test x.refuses refl t.0 (none-refuses l t.1)
   where
     by-test : (b : Bool) → x.refuses ≡ b → unnumbered x ≡ false → (first l ≡ 0 → some refusing l ≡ false) → some refusing (x ∷ l) ≡ false

@@ -10,10 +10,9 @@ pub const PANEL_PIXELS: usize = 76800;
 
 const HIGH: u64 = 0x8000_0000_0000_0000;
 
-// What an operation says of its arguments: that it accepts them, or why it refuses.
-#[derive(Clone, Copy)]
-pub enum Status {
-    Ok,
+// Why an operation refuses its arguments.
+#[derive(Clone, Copy, Debug, PartialEq, Eq)]
+pub enum Refusal {
     BadState,
     BadMemory,
     BadFrame,
@@ -23,40 +22,37 @@ pub enum Status {
     BadLog,
 }
 
+// What an operation says of its arguments: that it accepts them, or why it refuses.
+pub type Status = Result<(), Refusal>;
+
 // 01's number of a status.
 pub fn number(status: Status) -> u64
     ensures answer { result ≡ number status }
 {
     match status {
-        Status::Ok => 0,
-        Status::BadState => 1,
-        Status::BadMemory => 2,
-        Status::BadFrame => 3,
-        Status::TooLong => 4,
-        Status::CountHigh => 5,
-        Status::LogLong => 6,
-        Status::BadLog => 7,
+        Ok(()) => 0,
+        Err(Refusal::BadState) => 1,
+        Err(Refusal::BadMemory) => 2,
+        Err(Refusal::BadFrame) => 3,
+        Err(Refusal::TooLong) => 4,
+        Err(Refusal::CountHigh) => 5,
+        Err(Refusal::LogLong) => 6,
+        Err(Refusal::BadLog) => 7,
     }
 }
 
+// `is_ok` under a name: it is public, and the edits accepted_* name it.
 pub fn accepted(status: Status) -> bool
     ensures answer { result ≡ eqb (number status) 0 }
 {
-    number(status) == 0
+    status.is_ok()
 }
 
 // Whether one of the counts is above 2^63.
 pub fn some_high(counts: &[u64]) -> bool
     ensures answer { result ≡ some high counts.now }
 {
-    let mut i = 0;
-    while i < counts.len() {
-        if counts[i] > HIGH {
-            return true;
-        }
-        i += 1;
-    }
-    false
+    counts.iter().any(|count| *count > HIGH)
 }
 
 // BAD_MEMORY alone.
@@ -64,22 +60,20 @@ pub fn memory_status(cells: usize) -> Status
     ensures answer { number result ≡ memory_refusal cells }
 {
     if cells == PANEL_PIXELS {
-        return Status::Ok;
+        return Ok(());
     }
-    Status::BadMemory
+    Err(Refusal::BadMemory)
 }
 
 // BAD_MEMORY, then BAD_FRAME: the two lengths that a whole view and a publish ask for.
 pub fn view_status(cells: usize, room: usize) -> Status
     ensures answer { number result ≡ first (view_row cells room) }
 {
-    if cells != PANEL_PIXELS {
-        return Status::BadMemory;
-    }
+    memory_status(cells)?;
     if room != PANEL_PIXELS {
-        return Status::BadFrame;
+        return Err(Refusal::BadFrame);
     }
-    Status::Ok
+    Ok(())
 }
 
 // The tests of a transfer: BAD_STATE, BAD_MEMORY, TOO_LONG, COUNT_HIGH, the first and the last told by what looked at the state.
@@ -87,16 +81,14 @@ pub fn transfer_status(bad: bool, cells: usize, bytes: usize, counts: &[u64]) ->
     ensures answer { number result ≡ first (transfer_row bad cells bytes counts.now) }
 {
     if bad {
-        return Status::BadState;
+        return Err(Refusal::BadState);
     }
-    if cells != PANEL_PIXELS {
-        return Status::BadMemory;
-    }
+    memory_status(cells)?;
     if bytes > 65536 {
-        return Status::TooLong;
+        return Err(Refusal::TooLong);
     }
     if some_high(counts) {
-        return Status::CountHigh;
+        return Err(Refusal::CountHigh);
     }
-    Status::Ok
+    Ok(())
 }

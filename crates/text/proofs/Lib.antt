@@ -1,5 +1,4 @@
 pub mod Text
-pub mod Putting
 pub mod Sizing
 pub mod Making
 pub mod Digits

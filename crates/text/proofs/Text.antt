@@ -1,31 +1,15 @@
 -- What appending text means.
-use Prim.Native.Nat.{ℕ, ◌+◌, ◌-◌, ◌≤◌, ◌<◌, min}
-use mathlib.Core.Path.{◌≡◌, sym, ap, ◌∙◌}
+use Prim.Native.Nat.{ℕ, ◌+◌, ◌-◌, ◌≤◌, min}
+use mathlib.Core.Path.{◌≡◌, refl, sym, ap, ◌∙◌}
 use mathlib.Core.List.{List, [], ◌∷◌, ◌++◌, foldl-append}
 use native.Mathlib.Omega.{arith}
-use lib.ListN.{length, take, set, length-append, length-take}
+use lib.ListN.{length, take, length-append, length-take}
 use lib.Seq.{take_all}
 use Rattle.lists.specs.Fixed.{Fixed, used, push, push_all}
-use Rattle.lists.proofs.Fixed.{push-free, full, count-all, places-all, used_all}
-use Rattle.text.specs.Text.{appended}
-
--- What a call that appends a text promises: of the count that it answers, and of the buffer afterwards.
-abbrev pub Put : List ℕ → ℕ → List ℕ → ℕ → List ℕ → Type 0
-Put out at text at₁ out₁ = (at₁ ≡ (appended out at text).count) × (out₁ ≡ (appended out at text).places)
-
--- A byte where there is room.
-pub byte-kept : (out : List ℕ) (at byte : ℕ) → at < length out → Put out at (byte ∷ []) (at + 1) (set out at byte)
-unfolding appended
-byte-kept out at byte h =
-    let e = sym (push-free (length out) (record { count = at; places = out }) byte h) in (ap (λ f. f.count) e, ap (λ f. f.places) e)
+use Rattle.lists.proofs.Fixed.{count-all, places-all, used_all}
+use Rattle.text.specs.Text.{appended, Put}
 
 module _ (out : List ℕ) (at : ℕ) (text : List ℕ) where
-  -- Where there is no room, all stays as it is.
-  pub left_out : length out ≤ at → Put out at text at out
-  unfolding appended
-  left_out h =
-      let e = sym (full (length out) (record { count = at; places = out }) text h) in (ap (λ f. f.count) e, ap (λ f. f.places) e)
-
   -- The buffer keeps its length, and a count within it stays so.
   pub length-appended : length (appended out at text).places ≡ length out
   unfolding appended
@@ -63,6 +47,20 @@ appended-append out at a b =
     let f : Fixed ℕ = record { count = at; places = out } in
     foldl-append (push (length out)) f a b
     ∙ ap (λ n. push_all n (push_all (length out) f a) b) (sym (places-all (length out) f a))
+
+-- No text.
+pub appended_none : (out : List ℕ) (at : ℕ) → appended out at [] ≡ record { count = at; places = out }
+unfolding appended
+appended_none out at = refl
+
+-- A byte and then a text.
+pub appended_byte :
+    (out : List ℕ) (at x : ℕ) (b : List ℕ) →
+    appended out at (x ∷ b) ≡ appended (appended out at (x ∷ [])).places (appended out at (x ∷ [])).count b
+appended_byte out at x b = appended-append out at (x ∷ []) b
+
+-- What `grind` joins the texts of calls with.
+pub ruleset joined = (appended-append, appended_byte, appended_none)
 
 -- The same text said otherwise.
 pub put_same : (out : List ℕ) (at : ℕ) {a b : List ℕ} {at₁ : ℕ} {out₁ : List ℕ} → a ≡ b → Put out at a at₁ out₁ → Put out at b at₁ out₁

@@ -1,7 +1,7 @@
 // The timing lint: what the firmware did too early. Warnings only, never enforced. Times are nanoseconds.
 #![tactic(auto)]
 
-ghost use Rattle.std.specs.Prelude.{◌≡◌, ◌-◌, ◌≤◌, length, get_or};
+ghost use Rattle.std.specs.Prelude.{◌≡◌, ◌≤◌, length, get_or};
 ghost use Rattle.timing.specs.Lint.{soon_after, breaks1, breaks2, wrong_colmod, breaks3, breaks4, broken_by, only, rules_of, fresh_times, times_after};
 
 use codes::Kind;
@@ -13,22 +13,16 @@ const SLEEP_CYCLE: u64 = 120_000_000;
 
 const SWRESET_SETTLE: u64 = 5_000_000;
 
-#[derive(Clone, Copy)]
-pub enum Moment {
-    Never,
-    At(u64),
-}
-
 // When the panel last left sleep, if it has, when it last entered it, and when it was last reset by a command, if it was.
-#[derive(Clone, Copy)]
+#[derive(Clone, Copy, Debug, PartialEq, Eq)]
 pub struct Times {
-    pub slpout: Moment,
+    pub slpout: Option<u64>,
     pub slpin: u64,
-    pub swreset: Moment,
+    pub swreset: Option<u64>,
 }
 
-// Which of the four rules a command breaks.
-#[derive(Clone, Copy)]
+// Which of the four rules a command breaks. Four flags, since a command was slower with a list in memory (docs/SPEED.md).
+#[derive(Clone, Copy, Debug, PartialEq, Eq)]
 pub struct Broken {
     pub rule1: bool,
     pub rule2: bool,
@@ -36,37 +30,29 @@ pub struct Broken {
     pub rule4: bool,
 }
 
-fn elapsed(since: u64, t: u64) -> u64
-    ensures { result ≡ t - since }
-{
-    if since <= t { t - since } else { 0 }
-}
-
-fn soon_after(since: Moment, t: u64, limit: u64) -> bool
+// Less than `limit` after a moment. Nothing has passed where the clock went back.
+fn soon_after(since: Option<u64>, t: u64, limit: u64) -> bool
     ensures { result ≡ soon_after since t limit }
 {
-    match since {
-        Moment::Never => false,
-        Moment::At(at) => elapsed(at, t) < limit,
-    }
+    since.is_some_and(|at| t.saturating_sub(at) < limit)
 }
 
 // A command less than 5 ms after SLPOUT.
 fn command_after_slpout(times: Times, kind: Kind, t: u64) -> bool
     ensures { result ≡ breaks1 times kind t }
 {
-    let slpout = times.slpout;
-    !kind.is(Kind::Slpout) & soon_after(slpout, t, SLPOUT_SETTLE)
+    !matches!(kind, Kind::Slpout) && soon_after(times.slpout, t, SLPOUT_SETTLE)
 }
 
 // SLPIN and SLPOUT less than 120 ms apart.
 fn sleep_cycle_too_fast(times: Times, kind: Kind, t: u64) -> bool
     ensures { result ≡ breaks2 times kind t }
 {
-    let slpout = times.slpout;
-    let slept = kind.is(Kind::Slpin) & soon_after(slpout, t, SLEEP_CYCLE);
-    let woke = kind.is(Kind::Slpout) & soon_after(Moment::At(times.slpin), t, SLEEP_CYCLE);
-    slept | woke
+    match kind {
+        Kind::Slpin => soon_after(times.slpout, t, SLEEP_CYCLE),
+        Kind::Slpout => soon_after(Some(times.slpin), t, SLEEP_CYCLE),
+        _ => false,
+    }
 }
 
 // Whether COLMOD is one that pixel data is not to be sent under: with the formats read, one that names none; else any but 16 bits.
@@ -74,48 +60,46 @@ fn wrong_colmod(formats: bool, colmod: u8) -> bool
     ensures { result ≡ wrong_colmod formats colmod }
 {
     if formats {
-        return is_other(colmod);
+        is_other(colmod)
+    } else {
+        colmod != 0x55
     }
-    colmod != 0x55
 }
 
 // RAMWR or RAMWRC under a wrong COLMOD.
 fn ramwr_wrong_colmod(formats: bool, colmod: u8, kind: Kind) -> bool
     ensures { result ≡ breaks3 formats colmod kind }
 {
-    kind.starts_run() & wrong_colmod(formats, colmod)
+    kind.starts_run() && wrong_colmod(formats, colmod)
 }
 
 // A command less than 5 ms after SWRESET, under the strict profile.
 fn command_after_swreset(strict: bool, times: Times, t: u64) -> bool
     ensures { result ≡ breaks4 strict times t }
 {
-    let swreset = times.swreset;
-    strict & soon_after(swreset, t, SWRESET_SETTLE)
+    strict && soon_after(times.swreset, t, SWRESET_SETTLE)
 }
 
 // What a command of this kind breaks at time t, under the strict profile or the plain one, with the formats read or not.
+// Six parameters: those of `broken_by`; a struct of them would be made for one call.
 #[tactic(auto, unfolding(crate::specs::Lint::broken_by))]
 pub fn lint(strict: bool, formats: bool, times: Times, colmod: u8, kind: Kind, t: u64) -> Broken
     ensures answer { result ≡ broken_by strict formats times colmod kind t }
 {
-    let rule1 = command_after_slpout(times, kind, t);
-    let rule2 = sleep_cycle_too_fast(times, kind, t);
-    let rule3 = ramwr_wrong_colmod(formats, colmod, kind);
-    let rule4 = command_after_swreset(strict, times, t);
     Broken {
-        rule1,
-        rule2,
-        rule3,
-        rule4,
+        rule1: command_after_slpout(times, kind, t),
+        rule2: sleep_cycle_too_fast(times, kind, t),
+        rule3: ramwr_wrong_colmod(formats, colmod, kind),
+        rule4: command_after_swreset(strict, times, t),
     }
 }
 
+// A flag as a number. With a name: the edits count_rule2_missed and others name it.
 fn one(broken: bool) -> usize
     ensures value { result ≡ length (only broken 0) }
     ensures upper_bound { result ≤ 1 }
 {
-    if broken { 1 } else { 0 }
+    usize::from(broken)
 }
 
 impl Broken {
@@ -126,7 +110,7 @@ impl Broken {
         one(self.rule1) + one(self.rule2) + one(self.rule3) + one(self.rule4)
     }
 
-    // The number of the broken rule that stands at k in their order, 0 past the last.
+    // The number of the broken rule that stands at k in their order, 0 past the last, as `answer` says, so no Option.
     pub fn rule(self, k: usize) -> u8
         ensures answer { result ≡ get_or (rules_of self) k 0 }
     {
@@ -150,15 +134,13 @@ impl Broken {
     }
 }
 
-impl Moment {
-    // The same moment, made anew. A copy would take its padding along, and the next one would wait for that.
-    fn anew(self) -> Moment
-        ensures { result ≡ self }
-    {
-        match self {
-            Moment::Never => Moment::Never,
-            Moment::At(at) => Moment::At(at),
-        }
+// The same moment, made anew. A copy takes its padding along, which the next one waits for: a NOP in a long segment took 1.3 ns, not 1.0.
+fn anew(moment: Option<u64>) -> Option<u64>
+    ensures { result ≡ moment }
+{
+    match moment {
+        None => None,
+        Some(at) => Some(at),
     }
 }
 
@@ -167,9 +149,9 @@ impl Times {
         ensures answer { result ≡ fresh_times }
     {
         Times {
-            slpout: Moment::Never,
+            slpout: None,
             slpin: 0,
-            swreset: Moment::Never,
+            swreset: None,
         }
     }
 
@@ -177,40 +159,31 @@ impl Times {
     pub fn anew(self) -> Times
         ensures answer { result ≡ self }
     {
-        let slpout = self.slpout;
-        let swreset = self.swreset;
         Times {
-            slpout: slpout.anew(),
+            slpout: anew(self.slpout),
             slpin: self.slpin,
-            swreset: swreset.anew(),
+            swreset: anew(self.swreset),
         }
     }
 
     // The times after a command of this kind at time t.
-    #[tactic(auto, using(codes::proofs::Numbering::number_is, codes::proofs::Numbering::idle), unfolding(crate::specs::Lint::times_after))]
+    #[tactic(auto, unfolding(crate::specs::Lint::times_after))]
     pub fn after(self, kind: Kind, t: u64) -> Times
         ensures answer { result ≡ times_after self kind t }
     {
         let times = self.anew();
-        if !kind.has_effect() {
-            return times;
-        }
-        if kind.is(Kind::Slpout) {
-            return Times {
-                slpout: Moment::At(t),
+        match kind {
+            Kind::Slpout => Times {
+                slpout: Some(t),
                 ..times
-            };
-        }
-        if kind.is(Kind::Slpin) {
-            return Times { slpin: t, ..times };
-        }
-        if kind.is(Kind::Swreset) {
-            return Times {
+            },
+            Kind::Slpin => Times { slpin: t, ..times },
+            Kind::Swreset => Times {
                 slpin: t,
-                swreset: Moment::At(t),
+                swreset: Some(t),
                 ..times
-            };
+            },
+            _ => times,
         }
-        times
     }
 }

@@ -4,7 +4,6 @@
 pub use lent::row;
 pub use light::FrameView;
 pub use one::pixel;
-use status::Status;
 pub use whole::frame;
 
 mod lent;
@@ -13,14 +12,8 @@ mod one;
 mod whole;
 
 // Which of two lent memories a row is lent from.
-#[derive(Clone, Copy)]
+#[derive(Clone, Copy, Debug, PartialEq, Eq)]
 pub enum Memory {
     Panel,
     Frame,
-}
-
-#[derive(Clone, Copy)]
-pub struct Seen {
-    pub pixel: u16,
-    pub status: Status,
 }

@@ -1,10 +1,7 @@
-use Rattle.std.proofs.Common.{length, ◌-◌}
-use Rattle.lines.specs.Lines.{hex_byte}
-use Rattle.lines.proofs.Writing.{Writing}
+use Rattle.std.proofs.Common.{take}
+use Rattle.text.specs.Text.{Put}
+use Rattle.lines.specs.Lines.{hex_bytes}
 use Rattle.lines.proofs.put_hex_bytes.Given as goal
 
-abbrev pub invariant-loop-k : goal.invariant-loop-k
-invariant-loop-k l = Writing hex_byte l.bytes l.initial.out l.at l.out l.used l.k
-
-abbrev pub decreases-loop-k : goal.decreases-loop-k
-decreases-loop-k l = length l.bytes - l.k
+abbrev pub invariant-loop-byte : goal.invariant-loop-byte
+invariant-loop-byte l = Put l.initial.out l.at (hex_bytes (take l.byte-index l.bytes)) l.used l.out

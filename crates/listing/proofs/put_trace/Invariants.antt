@@ -1,10 +1,8 @@
-use Rattle.std.proofs.Common.{◌-◌}
+use Rattle.std.proofs.Common.{take}
+use Rattle.text.specs.Text.{Put}
+use Rattle.lines.specs.Lines.{texts}
 use Rattle.listing.specs.Listing.{trace_line}
-use Rattle.listing.proofs.Entries.{Listing}
 use Rattle.listing.proofs.put_trace.Given as goal
 
-abbrev pub invariant-loop-i : goal.invariant-loop-i
-invariant-loop-i l = Listing trace_line l.records l.n l.initial.out l.at l.out l.used l.i
-
-abbrev pub decreases-loop-i : goal.decreases-loop-i
-decreases-loop-i l = l.end - l.i
+abbrev pub invariant-loop-record : goal.invariant-loop-record
+invariant-loop-record l = Put l.initial.out l.at (texts trace_line (take l.record-index l.record-items)) l.used l.out

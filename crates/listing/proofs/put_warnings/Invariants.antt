@@ -1,10 +1,8 @@
-use Rattle.std.proofs.Common.{◌-◌}
+use Rattle.std.proofs.Common.{take}
+use Rattle.text.specs.Text.{Put}
+use Rattle.lines.specs.Lines.{texts}
 use Rattle.listing.specs.Listing.{warning_line}
-use Rattle.listing.proofs.Entries.{Listing}
 use Rattle.listing.proofs.put_warnings.Given as goal
 
-abbrev pub invariant-loop-i : goal.invariant-loop-i
-invariant-loop-i l = Listing warning_line l.warnings l.n l.initial.out l.at l.out l.used l.i
-
-abbrev pub decreases-loop-i : goal.decreases-loop-i
-decreases-loop-i l = l.end - l.i
+abbrev pub invariant-loop-warning : goal.invariant-loop-warning
+invariant-loop-warning l = Put l.initial.out l.at (texts warning_line (take l.warning-index l.warning-items)) l.used l.out

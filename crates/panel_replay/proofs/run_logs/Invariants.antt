@@ -1,8 +1,8 @@
-use Rattle.std.proofs.Common.{length, ◌-◌, ◌≤◌}
+use Rattle.std.proofs.Common.{length, ◌+◌, ◌≤◌}
 use Rattle.panel_replay.proofs.run_logs.Given as goal
 
-abbrev pub invariant-loop-at : goal.invariant-loop-at
-invariant-loop-at l = (l.number ≤ l.at) × (l.at ≤ length l.list)
+abbrev pub invariant-loop-length : goal.invariant-loop-length
+invariant-loop-length l = l.number + length l.rest ≤ length l.list
 
-abbrev pub decreases-loop-at : goal.decreases-loop-at
-decreases-loop-at l = length l.list - l.at
+abbrev pub decreases-loop-length : goal.decreases-loop-length
+decreases-loop-length l = length l.rest

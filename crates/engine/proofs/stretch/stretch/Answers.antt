@@ -1,36 +1,29 @@
-use Rattle.std.proofs.Common.{refl}
-use Rattle.geometry.specs.declared.Mapped.TheVariants.{At, Outside}
 use Rattle.engine.specs.Whole.{pixels_in}
 use Rattle.engine.proofs.Stretched.{stays-inside, stretched, stretched-memory, missed, missed-memory}
 use Rattle.engine.proofs.stretch.stretch.Goals as goal
 
-pub lay-requires-clause-inside : goal.lay-requires-clause-inside
-lay-requires-clause-inside c =
+pub invariant_of-stretch : goal.invariant_of-stretch
+invariant_of-stretch c =
     let a = c.args in
-    stays-inside a.site a.at (pixels_in a.site.format a.bytes.now) a.k a.n (At c.in-At.first) c.advance-next.result
-    c.in-At.ensures.answer c.in-At.first refl c.requires.n_bound
+    record { inside = stays-inside a.site a.at (pixels_in a.whole.format a.whole.bytes.now) a.k a.n c.in-Some.ensures.answer c.requires.n_bound }
 
-pub returns-in-At-clause-value : goal.returns-in-At-clause-value
-returns-in-At-clause-value c =
+pub returns-in-Some : goal.returns-in-Some
+returns-in-Some c =
     let a = c.args in
-    stretched a.site a.at (pixels_in a.site.format a.bytes.now) a.k a.n (At c.in-At.first) c.advance-next.result
-    c.in-At.ensures.answer c.in-At.first refl c.requires.n_bound _ _ _ c.requires.n_nonzero.0 c.advance-next.ensures.answer
-    c.row_at-top.ensures.answer c.row_at-end.ensures.answer c.mark_rows-wider.ensures.answer
+    let s = a.site in
+    let pixels = pixels_in a.whole.format a.whole.bytes.now in
+    let o = c.in-Some.ensures.answer in
+    let e = c.advance-next.ensures.answer in
+    record {
+      value =
+          stretched s a.at pixels a.k a.n o c.requires.n_bound c.requires.n_nonzero.0 e c.row_at-top.ensures.answer
+          c.row_at-end.ensures.answer c.mark_rows.ensures.answer;
+      memory_after = stretched-memory s a.at pixels a.k a.n o c.requires.n_bound _ _ c.lay.ensures;
+    }
 
-pub returns-in-At-clause-memory_after : goal.returns-in-At-clause-memory_after
-returns-in-At-clause-memory_after c =
+pub returns-in-None : goal.returns-in-None
+returns-in-None c =
     let a = c.args in
-    stretched-memory a.site a.at (pixels_in a.site.format a.bytes.now) a.k a.n (At c.in-At.first) c.advance-next.result
-    c.in-At.ensures.answer c.in-At.first refl c.requires.n_bound _ _ c.lay.ensures
-
-pub returns-in-Outside-clause-value : goal.returns-in-Outside-clause-value
-returns-in-Outside-clause-value c =
-    let a = c.args in
-    missed a.site a.at (pixels_in a.site.format a.bytes.now) a.k a.n Outside c.advance-next.result
-    c.in-Outside.ensures.answer refl c.advance-next.ensures.answer
-
-pub returns-in-Outside-clause-memory_after : goal.returns-in-Outside-clause-memory_after
-returns-in-Outside-clause-memory_after c =
-    let a = c.args in
-    missed-memory a.site a.at (pixels_in a.site.format a.bytes.now) a.k a.n Outside c.advance-next.result
-    c.in-Outside.ensures.answer refl _
+    let pixels = pixels_in a.whole.format a.whole.bytes.now in
+    let o = c.in-None.ensures.answer in
+    record { value = missed a.site a.at pixels a.k a.n o c.advance-next.ensures.answer; memory_after = missed-memory a.site a.at pixels a.k a.n o _ }

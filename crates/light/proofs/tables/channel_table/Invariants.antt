@@ -1,4 +1,4 @@
-use Rattle.std.proofs.Common.{ℕ, ◌+◌, ◌-◌, ◌≡◌, ◌<◌, ◌≤◌, length, get_or}
+use Rattle.std.proofs.Common.{ℕ, ◌+◌, ◌≡◌, ◌<◌, ◌≤◌, length, get_or}
 use Rattle.light.specs.Looks.{placed}
 use Rattle.light.proofs.tables.channel_table.Given as goal
 
@@ -8,6 +8,3 @@ invariant-loop-k l = record {
   long : length l.table ≡ 64;
   each : (j : ℕ) → j < l.k → get_or l.table j 0 ≡ placed l.light l.most l.times j;
 }
-
-abbrev pub decreases-loop-k : goal.decreases-loop-k
-decreases-loop-k l = l.most + 1 - l.k

@@ -4,7 +4,7 @@ use Rattle.panel_script.proofs.numbers.hex.Goals as goal
 
 pub returns-then-word-digits : goal.returns-then-word-digits
 unfolding hex_of
-returns-then-word-digits c = c.none.ensures ∙ simp (ne_eqb _ _ c.if-word-digits.true)
+returns-then-word-digits c = simp (ne_eqb _ _ c.if-word-digits.true)
 
 pub returns : goal.returns
 unfolding hex_of

@@ -1,8 +1,9 @@
-use Rattle.sequence.proofs.Rows.{row_within, row-past}
+use Rattle.std.proofs.Common.{◌≤◌, rules, sym}
+use lib.ListN.{get_or-eq_default}
+use Rattle.sequence.specs.Sequence.{boot_sequence, past_step}
 use Rattle.sequence.proofs.BootStep.at.Goals as goal
 
-pub returns-then-k-lt23 : goal.returns-then-k-lt23
-returns-then-k-lt23 c = record { answer = row_within _ _ c.if-k-lt23.true }
-
-pub returns : goal.returns
-returns c = record { answer = rw c.empty-params.ensures.answer (row-past _ c.if-k-lt23.false) }
+pub returns-in-None : goal.returns-in-None
+returns-in-None c =
+    let past : 23 ≤ c.args.k = search rules in
+    record { answer = sym (get_or-eq_default boot_sequence past_step past) }

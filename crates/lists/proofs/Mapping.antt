@@ -3,7 +3,7 @@ use Prim.Native.Nat.{ℕ, zero, suc, ◌≤◌, ◌<◌}
 use mathlib.Core.Path.{◌≡◌, refl}
 use mathlib.Core.List.{List, [], ◌∷◌, map}
 use native.Mathlib.Nat.{not-suc-le-zero, le_of_suc-le-suc}
-use borrow.Author.Tests.{eq-eqb}
+use borrow.Author.Tests.{eq-eqb, ne_eqb}
 use lib.ListN.{length, get_or}
 use Rattle.lists.specs.Copying.{overwritten}
 
@@ -18,6 +18,10 @@ pub record Mapped (f : ℕ → ℕ) (from to : List ℕ) (i : ℕ) : Type 0 wher
   pub long : length to ≡ length from
   pub each : (k : ℕ) → k < i → get_or to k 0 ≡ f (get_or from k 0)
 
--- One list over another that is as long.
-pub over-alike : (from to : List ℕ) → length to ≡ length from → overwritten from to ≡ from
-over-alike from to h = rw (eq-eqb (length to) (length from) h)
+-- One list over another, as long or not.
+module _ (from to : List ℕ) where
+  pub over-alike : length to ≡ length from → overwritten from to ≡ from
+  over-alike h = rw (eq-eqb (length to) (length from) h)
+
+  pub over-other : (length to ≡ length from → ⊥) → overwritten from to ≡ to
+  over-other h = rw (ne_eqb (length to) (length from) h)

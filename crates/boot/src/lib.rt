@@ -109,5 +109,5 @@ pub fn boot_mismatch(records: &[TraceRecord]) -> Compared
 pub fn trace_mismatch(records: [TraceRecord; PLACES], used: u8) -> Compared
     ensures answer { result ≡ compared (take used records) }
 {
-    boot_mismatch(&records[..usize::from(used).min(PLACES)])
+    boot_mismatch(&records[..lists::free(used, PLACES)])
 }

@@ -25,7 +25,7 @@ fn fill_glass(light: Light, from: &[u16], to: &mut [u16])
     ensures { to.new ≡ map (glass_of light) from.now }
 {
     if light.lit && light.plain {
-        to.copy_from_slice(from);
+        lists::copy(from, to);
         return;
     }
     fill_each(from, to, |raw| on_glass(light, raw, 65535));
@@ -48,7 +48,7 @@ pub fn fill(view: FrameView, light: Light, from: &[u16], to: &mut [u16])
         return;
     }
     match view {
-        FrameView::Raw => to.copy_from_slice(from),
+        FrameView::Raw => lists::copy(from, to),
         FrameView::Glass => fill_glass(light, from, to),
         FrameView::Perceived if light.lit => fill_dimmed(light, from, to),
         FrameView::Perceived => fill_glass(light, from, to),

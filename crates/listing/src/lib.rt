@@ -14,7 +14,7 @@ pub fn put_params(out: &mut [u8], at: usize, p: Params) -> usize
     ensures answer { result ≡ (appended out.old at (hex_bytes (listed p))).count }
     ensures lent { out.new ≡ (appended out.old at (hex_bytes (listed p))).places }
 {
-    let n = usize::from(p.count).min(14);
+    let n = lists::free(p.count, 14);
     lines::put_hex_bytes(out, at, &p.bytes[..n])
 }
 
@@ -37,7 +37,7 @@ pub fn put_trace(out: &mut [u8], at: usize, records: [TraceRecord; PLACES], n: u
     ensures answer { result ≡ (appended out.old at (texts trace_line (take n records))).count }
     ensures lent { out.new ≡ (appended out.old at (texts trace_line (take n records))).places }
 {
-    let end = usize::from(n).min(PLACES);
+    let end = lists::free(n, PLACES);
     let mut used = at;
     for record in &records[..end] {
         used = put_record(out, used, *record);
@@ -63,7 +63,7 @@ pub fn put_warnings(out: &mut [u8], at: usize, warnings: [Warning; PLACES], n: u
     ensures answer { result ≡ (appended out.old at (texts warning_line (take n warnings))).count }
     ensures lent { out.new ≡ (appended out.old at (texts warning_line (take n warnings))).places }
 {
-    let end = usize::from(n).min(PLACES);
+    let end = lists::free(n, PLACES);
     let mut used = at;
     for warning in &warnings[..end] {
         used = put_warning(out, used, *warning);

@@ -42,7 +42,7 @@ pub(crate) enum Field {
 
 // `set FIELD none`.
 fn says_none(line: &[u8]) -> bool {
-    words::count(line) == 3 && words::word(line, 2) == b"none".as_slice()
+    words::word(line, 2) == b"none".as_slice() && !words::has(line, 3)
 }
 
 // The n words of a field that is never `none`.

@@ -40,13 +40,12 @@ pub(crate) enum Call {
     Set(Field),
 }
 
-// A line with `least` words or more, `most` at most.
+// A line with `least` words or more, `most` at most; it has one.
 pub(crate) fn counted(line: &[u8], least: usize, most: usize) -> Result<(), Wrong> {
-    let n = words::count(line);
-    if most < n {
+    if words::has(line, most) {
         return Err(Wrong::ManyWords);
     }
-    if n < least {
+    if !words::has(line, least.saturating_sub(1)) {
         return Err(Wrong::FewWords);
     }
     Ok(())

@@ -1,4 +1,7 @@
 // What a word of a line may be, and what it stands for.
+ghost use Rattle.std.specs.Prelude.{◌≡◌, Some, IfOk};
+ghost use Rattle.panel_script.specs.Numbers.{hex_of};
+
 use crate::numbers;
 use crate::wrong::Wrong;
 use board::BoardDomain;
@@ -32,31 +35,31 @@ where
 }
 
 // Two hex digits.
-pub(crate) fn byte(word: &[u8]) -> Result<u8, Wrong> {
+pub(crate) fn byte(word: &[u8]) -> Result<u8, Wrong>
+    ensures { IfOk result (λ n. hex_of 2 word.now ≡ Some n) }
+{
     let n = numbers::hex(word, 2).ok_or(Wrong::BadNumber)?;
     u8::try_from(n).ok().ok_or(Wrong::BadNumber)
 }
 
+// Four hex digits.
+pub(crate) fn short(word: &[u8]) -> Result<u16, Wrong>
+    ensures { IfOk result (λ n. hex_of 4 word.now ≡ Some n) }
+{
+    let n = numbers::hex(word, 4).ok_or(Wrong::BadNumber)?;
+    u16::try_from(n).ok().ok_or(Wrong::BadNumber)
+}
+
 // Four hex digits, as two bytes.
 pub(crate) fn two_bytes(word: &[u8]) -> Result<(u8, u8), Wrong> {
-    if word.len() != 4 {
-        return Err(Wrong::BadNumber);
-    }
-    let first = byte(&word[..2])?;
-    let second = byte(&word[2..])?;
+    let [first, second] = short(word)?.to_be_bytes();
     Ok((first, second))
 }
 
-// Four hex digits.
-pub(crate) fn short(word: &[u8]) -> Result<u16, Wrong> {
-    let (high, low) = two_bytes(word)?;
-    Ok(u16::from_be_bytes([high, low]))
-}
-
 pub(crate) fn flag(word: &[u8]) -> Result<bool, Wrong> {
-    match word {
-        b"0" => Ok(false),
-        b"1" => Ok(true),
+    match numbers::hex(word, 1) {
+        Some(0) => Ok(false),
+        Some(1) => Ok(true),
         _ => Err(Wrong::BadNumber),
     }
 }

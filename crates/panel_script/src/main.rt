@@ -69,7 +69,9 @@ fn run(streams: Streams, head: &[u8], script: &[u8]) -> io::Result<()> {
 // Whether a line begins a case: `case NAME`.
 fn begins_case(line: &[u8]) -> bool {
     let content = words::before(line, b'#');
-    words::count(content) == 2 && words::word(content, 0) == b"case".as_slice()
+    words::word(content, 0) == b"case".as_slice()
+        && words::has(content, 1)
+        && !words::has(content, 2)
 }
 
 // How much of a text stands before the next line that begins a case.

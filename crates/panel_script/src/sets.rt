@@ -2,6 +2,7 @@
 use crate::fields::Field;
 use board::PanelConfig;
 use chip::{Chip, Decoder, Registers};
+use lists::PLACES;
 use marks::Marks;
 use pixels::Walk;
 use st7789::{Controller, Counts, Logs, St7789p3};
@@ -139,10 +140,14 @@ pub(crate) fn panel(mut panel: St7789p3, field: Field) -> St7789p3 {
     panel.controller = controller(panel.controller, field);
     match field {
         Field::Stored(place, entry) => put(&mut panel.stored, place, entry),
-        Field::Trace(Some(record)) => put(&mut panel.records, usize::from(logs.traced), record),
+        Field::Trace(Some(record)) => put(
+            &mut panel.records,
+            lists::free(logs.traced, PLACES),
+            record,
+        ),
         Field::Warnings(Some(warning)) => put(
             &mut panel.warnings,
-            usize::from(logs.warned),
+            lists::free(logs.warned, PLACES),
             warning,
         ),
         _ => {}

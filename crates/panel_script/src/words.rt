@@ -1,5 +1,5 @@
 // Parts of a text, lent out of it: what follows a place, what stands before a byte, and the words between spaces.
-ghost use Rattle.std.specs.Prelude.{◌≡◌, ◌==◌, not, drop};
+ghost use Rattle.std.specs.Prelude.{◌≡◌, ◌==◌, not, drop, length, ltb};
 ghost use Rattle.std.specs.List.{position};
 ghost use Rattle.panel_script.specs.Words.{until, run, before_first, unspaced, word_at};
 
@@ -62,7 +62,9 @@ pub(crate) fn word(text: &[u8], k: usize) -> &[u8]
     before(unspaced(rest), b' ')
 }
 
-// How many words there are.
-pub(crate) fn count(text: &[u8]) -> usize {
-    text.split(|x| *x == b' ').filter(|w| !w.is_empty()).count()
+// Whether there is a word k.
+pub(crate) fn has(text: &[u8], k: usize) -> bool
+    ensures { result ≡ ltb 0 (length (word_at k text.now)) }
+{
+    0 < word(text, k).len()
 }

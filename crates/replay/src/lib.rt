@@ -12,7 +12,8 @@ ghost use Rattle.replay.specs.Replay.{logged, replayed, replayed_if_good, printe
 
 use board::PanelConfig;
 use logs::Refused;
-use st7789::{PanelMemory, St7789p3};
+use pixels::Totals;
+use st7789::{PanelMemory, St7789p3, Transferred};
 
 // A fresh panel, the switch as in a log.
 fn fresh() -> St7789p3
@@ -26,12 +27,17 @@ fn fresh() -> St7789p3
 fn run(log: &[u8]) -> St7789p3
     ensures { result ≡ replayed log.now }
 {
-    let mut panel = fresh();
+    // The whole answer is kept from turn to turn: its panel in a place of its own would be copied once more at each record.
+    let mut a = Transferred {
+        panel: fresh(),
+        totals: Totals::none(),
+        status: Ok(()),
+    };
     let mut at = 0;
     // No `for`: a record says itself where it ends.
     while at < log.len() {
         let h = logs::head_at(log, at);
-        let a = panel.transfer(
+        a = a.panel.transfer(
             h.t,
             h.dc,
             &log[h.start..h.end],
@@ -39,10 +45,9 @@ fn run(log: &[u8]) -> St7789p3
             PanelMemory::Without,
             &mut [],
         );
-        panel = a.panel;
         at = h.end;
     }
-    panel
+    a.panel
 }
 
 // The panel after the log, or a fresh one where the log is refused, and then why and where.
